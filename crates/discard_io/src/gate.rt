@@ -1,0 +1,8 @@
+use std::sync::Wait;
+use std::thread::Threads;
+
+/// Where threads may be held, so that a test can bring them into one order.
+pub trait Gate {
+    /// Thread `who` passes `place`. It may wait for another thread.
+    fn pass<H: Threads + Wait + Sync>(&self, rt: &H, who: u32, place: u64);
+}

@@ -1,0 +1,24 @@
+#![tactic(auto)]
+//! The outside of a run: where bytes come from and go to, files by name, the clock, the gate between threads,
+//! and the status that a run ends with.
+//!
+//! A run is written over the traits alone. Each object counts its faults, so that a caller is told of a fault only
+//! where the object itself had one.
+
+mod clock;
+mod files;
+mod gate;
+mod reading;
+mod sink;
+mod source;
+mod status;
+mod writing;
+
+pub use clock::Clock;
+pub use files::{FileFault, Files};
+pub use gate::Gate;
+pub use reading::{ReadEnd, read_to_end};
+pub use sink::Sink;
+pub use source::Source;
+pub use status::{Failed, Status};
+pub use writing::write_all;

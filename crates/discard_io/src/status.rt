@@ -1,0 +1,42 @@
+ghost use Rattle.std.specs.Prelude.{◌≡◌};
+ghost use Rattle.discard_io.specs.Status.{code_of};
+
+/// One call of a source or a sink failed, and moved no byte.
+#[derive(Clone, Copy, Debug, PartialEq, Eq)]
+pub struct Failed;
+
+/// How a run ended.
+#[derive(Clone, Copy, Debug, PartialEq, Eq)]
+pub enum Status {
+    /// Everything was written.
+    Done,
+    /// Memory was wanting.
+    NoMemory,
+    /// The words of the command line are not in the grammar.
+    Usage,
+    /// What was read is refused, first at this place and for this cause.
+    BadInput { place: u64, cause: u32 },
+    /// The source had a fault.
+    ReadFault,
+    /// The sink had a fault.
+    WriteFault,
+    /// A file had a fault.
+    FileFault,
+}
+
+impl Status {
+    /// The status of the process: 0 to 6, in the order of the variants.
+    pub fn code(&self) -> u8
+        ensures { result ≡ code_of self.now }
+    {
+        match self {
+            Status::Done => 0,
+            Status::NoMemory => 1,
+            Status::Usage => 2,
+            Status::BadInput { .. } => 3,
+            Status::ReadFault => 4,
+            Status::WriteFault => 5,
+            Status::FileFault => 6,
+        }
+    }
+}
