@@ -15,6 +15,10 @@ abbrev pub Took : Option (List ℕ) → ℕ → Option (List ℕ) → Type 0
 Took None n after = after ≡ None
 Took (Some bytes) n after = (n ≤ length bytes) × (after ≡ Some (drop n bytes))
 
+-- a call took these bytes, and left the rest, where that is told
+abbrev pub Gave : Option (List ℕ) → List ℕ → Option (List ℕ) → Type 0
+Gave before bytes after = before ≡ option_map (λ rest. bytes ++ rest) after
+
 -- a call took at most this many of the next bytes
 abbrev pub TookAtMost : Option (List ℕ) → ℕ → Option (List ℕ) → Type 0
 TookAtMost before most after = (n : ℕ) × (n ≤ most) × Took before n after
