@@ -31,5 +31,5 @@ pub appended-front : (before between after : Option (List ℕ)) (bytes : List �
 appended-front before between after bytes at n front more =
     let whole : take (length bytes - at) (drop at bytes) ≡ drop at bytes = grind (arith, common_steps) in
     let joined : appended between (take n (drop at bytes)) ≡ appended before (take at bytes ++ take n (drop at bytes)) =
-        rw front (appended-append before (take at bytes) (take n (drop at bytes))) in
+    rw front (appended-append before (take at bytes) (take n (drop at bytes))) in
     more ∙ ap (λ rest. appended between (take n rest)) whole ∙ joined ∙ ap (appended before) (sym (take-add at n bytes))

@@ -1,2 +1,4 @@
+pub mod Memory
+pub mod MemoryFiles
 pub mod Status
 pub mod Streams

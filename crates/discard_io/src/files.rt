@@ -1,8 +1,8 @@
 ghost use Rattle.std.specs.Prelude.{◌≡◌, ℕ, ◌≤◌, List, Option, IfOk, IsErrOf, vec_len};
 ghost use Rattle.machine.specs.Count.{HasRisen};
 ghost use Rattle.discard_io.specs.Streams.{IsAllOf, Exceeds};
+ghost use Rattle.discard_io.specs.declared.files.FileFault.TheVariants as faults;
 
-use machine::NoMemory;
 use std::alloc::{AllocError, Global};
 
 /// Why a file was not read.
@@ -16,13 +16,9 @@ pub enum FileFault {
     NoMemory,
 }
 
-impl From<NoMemory> for FileFault {
-    fn from(_error: NoMemory) -> FileFault {
-        FileFault::NoMemory
-    }
-}
-
 impl From<AllocError> for FileFault {
+    ghost from_gives = { λ _ fault. fault ≡ faults.NoMemory };
+
     fn from(_error: AllocError) -> FileFault {
         FileFault::NoMemory
     }

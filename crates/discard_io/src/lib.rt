@@ -8,6 +8,7 @@
 mod clock;
 mod files;
 mod gate;
+mod memory;
 mod reading;
 mod sink;
 mod source;
@@ -17,6 +18,9 @@ mod writing;
 pub use clock::Clock;
 pub use files::{FileFault, Files};
 pub use gate::Gate;
+pub use memory::files::MemFiles;
+pub use memory::sink::MemSink;
+pub use memory::source::MemSource;
 pub use reading::{ReadEnd, read_to_end};
 pub use sink::Sink;
 pub use source::Source;
