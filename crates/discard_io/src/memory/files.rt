@@ -43,8 +43,8 @@ impl MemFiles {
 }
 
 impl Files for MemFiles {
-    ghost use Rattle.discard_io.specs.Memory.{NextFails, one_more, one_more_failed};
-    ghost use Rattle.discard_io.specs.MemoryFiles.{bytes_under, reads_of};
+    ghost use Rattle.discard_io.specs.Memory.{NextFails};
+    ghost use Rattle.discard_io.specs.MemoryFiles.{bytes_under, reads_of, reads_after};
 
     ghost bytes = { λ files name. bytes_under files name };
 
@@ -58,8 +58,7 @@ impl Files for MemFiles {
             → IfSome (bytes_under self.old name.now) (λ standing. most < length standing) }
         ensures fails { IsErrOf result FileFault.Failed
             ↔ (NextFails (reads_of self.old) ⊎ (bytes_under self.old name.now ≡ None)) }
-        ensures fault { IsErrOf result FileFault.Failed → reads_of self.new ≡ one_more_failed (reads_of self.old) }
-        ensures read { (IsErrOf result FileFault.Failed → ⊥) → reads_of self.new ≡ one_more (reads_of self.old) }
+        ensures reads { reads_of self.new ≡ reads_after result (reads_of self.old) }
         ensures later { (reads_of self.old).faults ≤ (reads_of self.new).faults }
     {
         if self.calls.next_fails() {
