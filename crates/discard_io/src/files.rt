@@ -4,6 +4,8 @@ ghost use Rattle.discard_io.specs.Streams.{IsAllOf, Exceeds};
 ghost use Rattle.discard_io.specs.declared.files.FileFault.TheVariants as faults;
 
 use std::alloc::{AllocError, Global};
+use std::error::Error;
+use std::fmt;
 
 /// Why a file was not read.
 #[derive(Clone, Copy, Debug, PartialEq, Eq)]
@@ -15,6 +17,18 @@ pub enum FileFault {
     /// Memory was wanting.
     NoMemory,
 }
+
+impl fmt::Display for FileFault {
+    fn fmt<W: fmt::Write>(&self, f: &mut fmt::Formatter<W>) -> fmt::Result {
+        f.write_str(match self {
+            FileFault::Failed => "failed",
+            FileFault::TooLong => "too long",
+            FileFault::NoMemory => "no memory",
+        })
+    }
+}
+
+impl Error for FileFault {}
 
 impl From<AllocError> for FileFault {
     ghost from_gives = { λ _ fault. fault ≡ faults.NoMemory };

@@ -15,6 +15,8 @@ mod real;
 mod sink;
 mod source;
 mod status;
+#[cfg(test)]
+mod tests;
 mod writing;
 
 pub use clock::{Clock, CountClock};

@@ -6,7 +6,8 @@ ghost use Rattle.discard_io.specs.declared.reading.ReadEnd.TheVariants as ends;
 use crate::source::Source;
 use crate::status::Failed;
 use std::alloc::{AllocError, Global};
-use std::cmp;
+use std::error::Error;
+use std::{cmp, fmt};
 
 // The most bytes that one read asks for.
 const LARGEST_READ: u64 = 1 << 16;
@@ -21,6 +22,18 @@ pub enum ReadEnd {
     /// Memory was wanting.
     NoMemory,
 }
+
+impl fmt::Display for ReadEnd {
+    fn fmt<W: fmt::Write>(&self, f: &mut fmt::Formatter<W>) -> fmt::Result {
+        f.write_str(match self {
+            ReadEnd::Failed => "failed",
+            ReadEnd::TooLong => "too long",
+            ReadEnd::NoMemory => "no memory",
+        })
+    }
+}
+
+impl Error for ReadEnd {}
 
 impl From<Failed> for ReadEnd {
     ghost from_gives = { λ _ end. end ≡ ends.Failed };
@@ -53,6 +66,7 @@ pub fn read_to_end<S: Source>(alloc: Global, source: &mut S, most: u64) -> Resul
 {
     let mut buffer = buffer_of(alloc, cmp::min(most + 1, LARGEST_READ) as usize)?;
     let mut bytes = Vec::new(alloc);
+    // Each turn but the last takes a byte at least, so there are at most `most + 1` reads.
     while bytes.len() as u64 <= most {
         let room = most + 1 - bytes.len() as u64;
         if read_more(source, &mut buffer, room, &mut bytes)? == 0 {
