@@ -1,6 +1,5 @@
 -- Parts of a list, joined again.
-use Rattle.std.proofs.Common.{◌≡◌, ℕ, ◌+◌, ◌-◌, ◌≤◌, List, ◌++◌, take, drop, arith, subst, sym}
-use Rattle.std.proofs.lemmas.Grind.{common_steps}
+use Rattle.std.proofs.Common.{◌≡◌, ℕ, ◌+◌, ◌-◌, ◌≤◌, List, ◌++◌, take, drop, arith, subst}
 use Rattle.std.proofs.lemmas.List.{drop-drop, drop-take, take-append-drop}
 
 cut_behind : (n k : ℕ) (xs : List ℕ) → drop n (take (n + k) xs) ++ drop (n + k) xs ≡ drop n xs

@@ -1,4 +1,4 @@
-use Rattle.std.proofs.Common.{rules, ◌+◌, ◌-◌, ◌≤◌, vec_len, arith}
+use Rattle.std.proofs.Common.{rules, ◌+◌, arith}
 use Rattle.std.proofs.lemmas.Grind.{common_steps}
 use Rattle.discard_io.specs.Streams.{TookAtMost}
 use Rattle.discard_io.proofs.StreamSteps.{took_at_most-after-gave}

@@ -1,4 +1,4 @@
-use Rattle.std.proofs.Common.{length, take, ◌-◌, ◌≡◌, ℕ, ◌≤◌}
+use Rattle.std.proofs.Common.{length, take, ◌-◌, ◌≡◌, ◌≤◌}
 use Rattle.discard_io.specs.Streams.{appended}
 use Rattle.discard_io.proofs.writing.write_all.Given as goal
 

@@ -1,4 +1,4 @@
-use Rattle.std.proofs.Common.{◌≡◌, ◌++◌, ◌≤◌, take, drop, arith, append_assoc, ap, ◌∙◌}
+use Rattle.std.proofs.Common.{◌≤◌, arith, append_assoc}
 use Rattle.std.proofs.lemmas.Grind.{common_steps}
 use Rattle.discard_io.proofs.Parts.{drop-take-drop}
 use Rattle.discard_io.proofs.memory.source.MemSourceSource.read.Goals as goal
