@@ -3,3 +3,4 @@ pub mod Memory
 pub mod MemoryFiles
 pub mod Status
 pub mod Streams
+pub mod Texts

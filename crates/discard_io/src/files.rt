@@ -1,4 +1,4 @@
-ghost use Rattle.std.specs.Prelude.{◌≡◌, ℕ, ◌≤◌, List, Option, IfOk, IsErrOf, vec_len};
+ghost use Rattle.std.specs.Prelude.{◌≡◌, Some, ℕ, ◌≤◌, List, Option, IfOk, IsErrOf, vec_len};
 ghost use Rattle.machine.specs.Count.{HasRisen};
 ghost use Rattle.discard_io.specs.Streams.{IsAllOf, Exceeds};
 ghost use Rattle.discard_io.specs.declared.files.FileFault.TheVariants as faults;
@@ -19,6 +19,10 @@ pub enum FileFault {
 }
 
 impl fmt::Display for FileFault {
+    ghost use Rattle.discard_io.specs.Texts.{fault_text};
+
+    ghost output = { λ fault. Some (fault_text fault) };
+
     fn fmt<W: fmt::Write>(&self, f: &mut fmt::Formatter<W>) -> fmt::Result {
         f.write_str(match self {
             FileFault::Failed => "failed",

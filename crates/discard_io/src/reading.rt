@@ -1,4 +1,4 @@
-ghost use Rattle.std.specs.Prelude.{◌≡◌, ℕ, ◌+◌, ◌-◌, ◌^◌, ◌<◌, ◌≤◌, ◌++◌, List, length, IfOk, OnErr, IsErrOf, vec_len};
+ghost use Rattle.std.specs.Prelude.{◌≡◌, Some, ℕ, ◌+◌, ◌-◌, ◌^◌, ◌<◌, ◌≤◌, ◌++◌, List, length, IfOk, OnErr, IsErrOf, vec_len};
 ghost use Rattle.machine.specs.Count.{HasRisen};
 ghost use Rattle.discard_io.specs.Streams.{Took, TookAll, TookAtMost, Gave, IsAtEnd};
 ghost use Rattle.discard_io.specs.declared.reading.ReadEnd.TheVariants as ends;
@@ -24,6 +24,10 @@ pub enum ReadEnd {
 }
 
 impl fmt::Display for ReadEnd {
+    ghost use Rattle.discard_io.specs.Texts.{end_text};
+
+    ghost output = { λ end. Some (end_text end) };
+
     fn fmt<W: fmt::Write>(&self, f: &mut fmt::Formatter<W>) -> fmt::Result {
         f.write_str(match self {
             ReadEnd::Failed => "failed",
