@@ -2,10 +2,14 @@
 use Rattle.std.specs.Prelude.{ℕ, Bool, true, false, not, ◌||◌, ◌==◌, if◌then◌else◌, List, [], ◌∷◌, map, length}
 use Rattle.std.specs.List.{filter, slice_split, onto_first, enumerate_from}
 
+-- a line ends with a line feed
+abbrev pub is_feed : ℕ → Bool
+is_feed b = b == 10
+
 -- the lines of a text: it is cut at each line feed, and a rest behind the last one is a line where it isn't empty
 abbrev pub lines_of : List ℕ → List (List ℕ)
 lines_of [] = []
-lines_of (b ∷ bs) = if b == 10 then [] ∷ lines_of bs else onto_first b (lines_of bs)
+lines_of (b ∷ bs) = if is_feed b then [] ∷ lines_of bs else onto_first b (lines_of bs)
 
 -- space, TAB and CR stand between words
 abbrev pub is_blank : ℕ → Bool

@@ -18,7 +18,9 @@ pub fn read_hex(alloc: Global, word: &[u8]) -> Result<Option<Bytes>, NoMemory>
     }
     match hex::decode(alloc, word) {
         Ok(bytes) => Ok(Some(Bytes::from_vec(bytes))),
-        Err(FromHexError::OutOfMemory) => Err(NoMemory),
-        Err(_) => Ok(None),
+        Err(error) => match error {
+            FromHexError::OutOfMemory => Err(NoMemory),
+            _ => Ok(None),
+        },
     }
 }

@@ -1,9 +1,65 @@
-ghost use Rattle.std.specs.Prelude.{◌≡◌, IfOk};
-ghost use Rattle.line_text.specs.Lines.{kept_lines};
+ghost use Rattle.std.specs.Prelude.{◌≡◌, ◌<◌, ◌||◌, ◌==◌, [], ◌∷◌, length, IfSome, MatchOption, position, not, IfOk};
+ghost use Rattle.line_text.specs.Lines.{lines_of, words_of, is_feed, is_blank, kept_lines};
 
-use crate::line::Cut;
+use crate::line::{Cut, Line};
 use machine::NoMemory;
 use std::alloc::Global;
+
+/// Space, TAB and CR stand between words.
+fn is_blank(byte: u8) -> bool
+    ensures { result ≡ is_blank byte }
+{
+    byte == b' ' || byte == b'\t' || byte == b'\r'
+}
+
+/// Where the first line of a text ends, if it has an end.
+fn line_end(text: &[u8]) -> Option<usize>
+    ensures { result ≡ position is_feed text.now }
+{
+    text.iter().position(|byte| *byte == b'\n')
+}
+
+/// Where the first word of a line begins, if there is one.
+fn word_start(line: &[u8]) -> Option<usize>
+    ensures { result ≡ position (λ b. not (is_blank b)) line.now }
+{
+    line.iter().position(|byte| !is_blank(*byte))
+}
+
+/// Where a word at the front of a line ends, if something follows it.
+fn word_end(line: &[u8]) -> Option<usize>
+    ensures { result ≡ position is_blank line.now }
+{
+    line.iter().position(|byte| is_blank(*byte))
+}
+
+/// The first line of a text, and what follows its end.
+pub(crate) fn split_line(text: &[u8]) -> Option<(&[u8], &[u8])>
+    ensures lines { MatchOption result (lines_of text.now ≡ []) (λ line. lines_of text.now ≡ line.0.now ∷ lines_of line.1.now) }
+    ensures shorter { IfSome result (λ line. length line.1.now < length text.now) }
+{
+    if text.is_empty() {
+        return None;
+    }
+    match line_end(text) {
+        Some(end) => Some((&text[..end], &text[end + 1..])),
+        None => Some((text, &[])),
+    }
+}
+
+/// The first word of a line, and what follows it.
+pub(crate) fn split_word(line: &[u8]) -> Option<(&[u8], &[u8])>
+    ensures words { MatchOption result (words_of line.now ≡ []) (λ word. words_of line.now ≡ word.0.now ∷ words_of word.1.now) }
+    ensures some { IfSome result (λ word. 0 < length word.0.now) }
+    ensures shorter { IfSome result (λ word. length word.1.now < length line.now) }
+{
+    let start = word_start(line)?;
+    let word = &line[start..];
+    match word_end(word) {
+        Some(end) => Some((&word[..end], &word[end + 1..])),
+        None => Some((word, &[])),
+    }
+}
 
 /// Cuts a text into its lines and their words. Lines end with LF, words are parted by space, TAB and
 /// CR, and a line is skipped where it has no word or its first word begins with `#`. Words are
