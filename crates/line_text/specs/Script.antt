@@ -10,6 +10,8 @@ use Rattle.line_text.specs.declared.cause.Cause.{Cause}
 use Rattle.line_text.specs.declared.cause.Cause.TheVariants as cause
 use Rattle.line_text.specs.declared.command.Command.{Command}
 use Rattle.line_text.specs.declared.command.Command.TheVariants.{Grant, Lock, Unlock, Write, Read, Try}
+use Rattle.line_text.specs.declared.fault.LineFault.{LineFault}
+use Rattle.line_text.specs.declared.fault.LineFault.TheVariants.{Refused, Memory}
 use Rattle.line_text.specs.declared.fault.ScriptFault.{ScriptFault}
 use Rattle.line_text.specs.declared.fault.ScriptFault.TheVariants.{Bad, NoMemory}
 
@@ -118,6 +120,12 @@ command_of (name ∷ words) =
     else if bytes_eq name (codes "read") then read words
     else if bytes_eq name (codes "try") then try_purge words
     else Err cause.Word
+
+-- what reading a line gives is what is said of it, unless memory is wanting
+abbrev pub Gives : Result Command LineFault → Result Command Cause → Type 0
+Gives (Ok command) said = said ≡ Ok command
+Gives (Err (Refused why)) said = said ≡ Err why
+Gives (Err Memory) said = Unit {0}
 
 -- ---- whole scripts
 

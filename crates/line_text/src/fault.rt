@@ -1,3 +1,9 @@
+ghost use Rattle.std.specs.Prelude.{◌≡◌};
+ghost use Rattle.line_text.specs.declared.fault.LineFault.TheVariants.{Refused, Memory};
+
+use crate::cause::Cause;
+use machine::NoMemory;
+
 /// Why a script was not read.
 #[derive(Clone, Copy, Debug, PartialEq, Eq)]
 pub enum ScriptFault {
@@ -6,4 +12,27 @@ pub enum ScriptFault {
     Bad { place: u64, cause: u32 },
     /// Memory was wanting.
     NoMemory,
+}
+
+/// Why a line was not read.
+#[derive(Clone, Copy, Debug, PartialEq, Eq)]
+pub(crate) enum LineFault {
+    Refused(Cause),
+    Memory,
+}
+
+impl From<Cause> for LineFault {
+    ghost from_gives = { λ why e. e ≡ Refused why };
+
+    fn from(why: Cause) -> LineFault {
+        LineFault::Refused(why)
+    }
+}
+
+impl From<NoMemory> for LineFault {
+    ghost from_gives = { λ _ e. e ≡ Memory };
+
+    fn from(_error: NoMemory) -> LineFault {
+        LineFault::Memory
+    }
 }

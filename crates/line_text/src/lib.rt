@@ -8,6 +8,7 @@ mod hexadecimal;
 mod line;
 mod lines;
 mod number;
+mod rows;
 mod script;
 
 pub use cause::Cause;
