@@ -160,6 +160,11 @@ cause_number cause.Bytes = 4
 cause_number cause.Many = 5
 cause_number cause.Long = 6
 
+-- the fault of a script whose line of this number has a fault
+abbrev pub fault_at : ℕ → LineFault → ScriptFault
+fault_at number (Refused why) = Bad number (cause_number why)
+fault_at number Memory = NoMemory
+
 -- where a script is refused, and why
 pub record Refusal : Type 0 where
   pub place : ℕ
@@ -192,8 +197,12 @@ IsScript text commands = script_of text ≡ Ok commands
 abbrev pub IsRefused : List ℕ → ℕ → ℕ → Type 0
 IsRefused text place cause = script_of text ≡ Err (record { place = place; cause = cause })
 
+-- what is answered is what a text is said to be, unless memory is wanting
+abbrev pub Answers : Result Commands ScriptFault → Result Commands Refusal → Type 0
+Answers (Ok commands) said = said ≡ Ok commands
+Answers (Err (Bad place cause)) said = said ≡ Err (record { place = place; cause = cause })
+Answers (Err NoMemory) said = Unit {0}
+
 -- what reading a text answers is what the text is, unless memory is wanting
 abbrev pub Reads : Result Commands ScriptFault → List ℕ → Type 0
-Reads (Ok commands) text = IsScript text commands
-Reads (Err (Bad place cause)) text = IsRefused text place cause
-Reads (Err NoMemory) text = Unit {0}
+Reads answer text = Answers answer (script_of text)

@@ -1,3 +1,6 @@
+ghost use Rattle.std.specs.Prelude.{◌≡◌};
+ghost use Rattle.line_text.specs.Script.{is_grant};
+
 use machine::Bytes;
 
 /// A command of a script. Segments are told by their numbers, from the oldest grant on; pages and
@@ -40,4 +43,13 @@ pub enum Command {
         id: u64,
         at: u64,
     },
+}
+
+impl Command {
+    /// Whether it may be granted a segment. A script has at most 1,024 such commands.
+    pub(crate) fn is_grant(&self) -> bool
+        ensures { result ≡ is_grant self.now }
+    {
+        matches!(self, Command::Grant { .. })
+    }
 }

@@ -1,5 +1,5 @@
-ghost use Rattle.std.specs.Prelude.{◌≡◌, ◌<◌, ◌||◌, ◌==◌, [], ◌∷◌, length, IfSome, MatchOption, position, not, IfOk};
-ghost use Rattle.line_text.specs.Lines.{lines_of, words_of, is_feed, is_blank, kept_lines};
+ghost use Rattle.std.specs.Prelude.{◌≡◌, ◌<◌, ◌||◌, ◌==◌, [], ◌∷◌, true, false, length, IfSome, MatchOption, position, not, IfOk};
+ghost use Rattle.line_text.specs.Lines.{lines_of, words_of, is_feed, is_blank, is_kept, kept_lines};
 
 use crate::line::{Cut, Line};
 use machine::NoMemory;
@@ -59,6 +59,18 @@ pub(crate) fn split_word(line: &[u8]) -> Option<(&[u8], &[u8])>
         Some(end) => Some((&word[..end], &word[end + 1..])),
         None => Some((word, &[])),
     }
+}
+
+/// The first word of a line and what follows it, unless the line is skipped.
+pub(crate) fn split_kept(line: &[u8]) -> Option<(&[u8], &[u8])>
+    ensures { MatchOption result (is_kept (words_of line.now) ≡ false)
+        (λ word. (is_kept (words_of line.now) ≡ true) × (words_of line.now ≡ word.0.now ∷ words_of word.1.now)) }
+{
+    let (first, rest) = split_word(line)?;
+    if first[0] == b'#' {
+        return None;
+    }
+    Some((first, rest))
 }
 
 /// Cuts a text into its lines and their words. Lines end with LF, words are parted by space, TAB and

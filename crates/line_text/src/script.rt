@@ -1,9 +1,13 @@
-ghost use Rattle.std.specs.Prelude.{◌≡◌, ℕ, List, length, slice_get};
+ghost use Rattle.std.specs.Prelude.{◌≡◌, ℕ, List, [], ◌∷◌, length, slice_get};
 ghost use Rattle.std.specs.Option.{option_map};
-ghost use Rattle.line_text.specs.Script.{Commands, Reads};
+ghost use Rattle.line_text.specs.Lines.{words_of, kept_lines};
+ghost use Rattle.line_text.specs.Script.{grants as grants_of, next_command, commands_after, Gives, Answers, Reads};
 
+use crate::cause::Cause;
 use crate::command::Command;
-use crate::fault::ScriptFault;
+use crate::fault::{LineFault, ScriptFault};
+use crate::lines::{split_kept, split_line};
+use crate::rows::command;
 use std::alloc::Global;
 use std::marker::Model;
 
@@ -40,6 +44,15 @@ impl Script {
     }
 }
 
+/// The most bytes that a script has.
+const MOST_BYTES: usize = 1_048_576;
+
+/// The most commands that a script has.
+const MOST_COMMANDS: usize = 4096;
+
+/// The most commands of a script that may be granted a segment.
+const MOST_GRANTS: usize = 1024;
+
 /// Reads a script whole: its commands, or the first place where it is refused and the cause.
 ///
 /// A text of more than 1,048,576 bytes is refused before all else. Then the first line that is
@@ -48,5 +61,50 @@ impl Script {
 pub fn read_script(alloc: Global, bytes: &[u8]) -> Result<Script, ScriptFault>
     ensures { Reads result bytes.now }
 {
-    Err(ScriptFault::NoMemory)
+    if bytes.len() > MOST_BYTES {
+        return Err(LineFault::Refused(Cause::Long).at(MOST_BYTES as u64));
+    }
+    read_lines(alloc, bytes)
+}
+
+fn read_lines(alloc: Global, text: &[u8]) -> Result<Script, ScriptFault>
+    ensures { Answers result (commands_after [] (kept_lines text.now)) }
+{
+    let mut commands = Vec::new(alloc);
+    let mut grants = 0;
+    let mut number = 0;
+    let mut rest = text;
+    while let Some((line, after)) = split_line(rest) {
+        rest = after;
+        number += 1;
+        if let Some((name, words)) = split_kept(line) {
+            let command = match next_command(alloc, &commands, grants, name, words) {
+                Ok(command) => command,
+                Err(fault) => return Err(fault.at(number)),
+            };
+            if command.is_grant() {
+                grants += 1;
+            }
+            commands.push((number, command))?;
+        }
+    }
+    Ok(Script { commands })
+}
+
+/// The command of a line, behind the commands before it.
+fn next_command(
+    alloc: Global,
+    before: &[(u64, Command)],
+    grants: usize,
+    name: &[u8],
+    words: &[u8],
+) -> Result<Command, LineFault>
+    requires { grants ≡ grants_of before.now }
+    ensures { Gives result (next_command before.now (name.now ∷ words_of words.now)) }
+{
+    let command = command(alloc, name, words)?;
+    if before.len() >= MOST_COMMANDS || (command.is_grant() && grants >= MOST_GRANTS) {
+        return Err(LineFault::Refused(Cause::Many));
+    }
+    Ok(command)
 }
