@@ -2,3 +2,4 @@ pub mod Hex
 pub mod Lines
 pub mod Number
 pub mod Script
+pub mod Spans

@@ -6,14 +6,14 @@ use std::marker::Model;
 /// A line that isn't skipped, seen by contracts as its number and its words.
 #[derive(Debug, Drop)]
 pub struct Line<'a> {
-    pub(crate) number: u64,
-    pub(crate) words: Vec<&'a [u8]>,
+    number: u64,
+    words: &'a [&'a [u8]],
 }
 
 impl<'a> Model for Line<'a> {
     ghost Value = { ℕ × List (List ℕ) };
 
-    ghost view = { λ l. (l.number, map (λ w. w.now) l.words.items) };
+    ghost view = { λ l. (l.number, map (λ w. w.now) l.words.now) };
 }
 
 impl<'a> Line<'a> {
@@ -39,16 +39,31 @@ impl<'a> Line<'a> {
     }
 }
 
+/// Where the words of a line lie among the words of all lines.
+#[derive(Clone, Copy, Debug)]
+pub(crate) struct Span {
+    pub(crate) number: u64,
+    pub(crate) start: usize,
+    pub(crate) end: usize,
+}
+
 /// The lines of a text that aren't skipped, seen by contracts as the list of them.
 #[derive(Debug, Drop)]
 pub struct Cut<'a> {
-    pub(crate) lines: Vec<Line<'a>>,
+    pub(crate) words: Vec<&'a [u8]>,
+    pub(crate) spans: Vec<Span>,
 }
 
 impl<'a> Model for Cut<'a> {
+    ghost use Rattle.std.specs.Prelude.{ℕ, List, length};
+
     ghost Value = { List (ℕ × List (List ℕ)) };
 
-    ghost view = { λ c. c.lines.items };
+    ghost use Rattle.line_text.specs.Spans.{lines_at, AreWithin};
+
+    ghost view = { λ c. lines_at c.words c.spans };
+
+    ghost invariant = { λ c. AreWithin (length c.words.items) c.spans.items };
 }
 
 impl<'a> Cut<'a> {
@@ -56,13 +71,17 @@ impl<'a> Cut<'a> {
     pub fn len(&self) -> u64
         ensures { result ≡ length self.now }
     {
-        self.lines.len() as u64
+        self.spans.len() as u64
     }
 
     /// A line by its place, which counts from 0. None comes exactly at a place from `len` on.
-    pub fn get(&self, place: u64) -> Option<&Line<'a>>
-        ensures { option_copied result ≡ slice_get self.now place }
+    pub fn get(&self, place: u64) -> Option<Line<'_>>
+        ensures { result ≡ slice_get self.now place }
     {
-        self.lines.get(place as usize)
+        let span = *self.spans.get(place as usize)?;
+        Some(Line {
+            number: span.number,
+            words: &self.words[span.start..span.end],
+        })
     }
 }

@@ -1,7 +1,8 @@
-ghost use Rattle.std.specs.Prelude.{◌≡◌, ◌<◌, ◌||◌, ◌==◌, [], ◌∷◌, true, false, length, IfSome, MatchOption, position, not, IfOk};
+ghost use Rattle.std.specs.Prelude.{◌≡◌, ◌<◌, ◌||◌, ◌==◌, [], ◌∷◌, true, false, ◌++◌, length, map, IfSome, MatchOption, position, not, IfOk, OnOk};
 ghost use Rattle.line_text.specs.Lines.{lines_of, words_of, is_feed, is_blank, is_kept, kept_lines};
+ghost use Rattle.line_text.specs.Spans.{lines_at, AreWithin};
 
-use crate::line::{Cut, Line};
+use crate::line::{Cut, Span};
 use machine::NoMemory;
 use std::alloc::Global;
 
@@ -73,13 +74,55 @@ pub(crate) fn split_kept(line: &[u8]) -> Option<(&[u8], &[u8])>
     Some((first, rest))
 }
 
+/// Puts the words of a line behind those that are there.
+fn push_words<'a>(line: &'a [u8], words: &mut Vec<&'a [u8]>) -> Result<(), NoMemory>
+    ensures { OnOk result (map (λ w. w.now) words.new.items ≡ map (λ w. w.now) words.old.items ++ words_of line.now) }
+{
+    let mut rest = line;
+    while let Some((word, after)) = split_word(rest) {
+        words.push(word)?;
+        rest = after;
+    }
+    Ok(())
+}
+
+/// Puts a line behind those that are there. Its first word and what follows it are given.
+fn push_line<'a>(
+    number: u64,
+    first: &'a [u8],
+    rest: &'a [u8],
+    words: &mut Vec<&'a [u8]>,
+    spans: &mut Vec<Span>,
+) -> Result<(), NoMemory>
+    requires { AreWithin (length words.old.items) spans.old.items }
+    ensures line { OnOk result (lines_at words.new spans.new
+        ≡ lines_at words.old spans.old ++ (number, first.now ∷ words_of rest.now) ∷ []) }
+    ensures within { OnOk result (AreWithin (length words.new.items) spans.new.items) }
+{
+    let start = words.len();
+    words.push(first)?;
+    push_words(rest, words)?;
+    let end = words.len();
+    spans.push(Span { number, start, end })?;
+    Ok(())
+}
+
 /// Cuts a text into its lines and their words. Lines end with LF, words are parted by space, TAB and
 /// CR, and a line is skipped where it has no word or its first word begins with `#`. Words are
 /// borrowed from the text.
 pub fn cut(alloc: Global, bytes: &[u8]) -> Result<Cut<'_>, NoMemory>
     ensures { IfOk result (λ lines. lines ≡ kept_lines bytes.now) }
 {
-    Ok(Cut {
-        lines: Vec::new(alloc),
-    })
+    let mut words = Vec::new(alloc);
+    let mut spans = Vec::new(alloc);
+    let mut number = 0;
+    let mut rest = bytes;
+    while let Some((line, after)) = split_line(rest) {
+        rest = after;
+        number += 1;
+        if let Some((first, others)) = split_kept(line) {
+            push_line(number, first, others, &mut words, &mut spans)?;
+        }
+    }
+    Ok(Cut { words, spans })
 }

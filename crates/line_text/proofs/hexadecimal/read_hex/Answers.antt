@@ -1,4 +1,4 @@
-use Rattle.std.proofs.Common.{rules, sym, ap, ◌∙◌, Some, None, inl, inr, arith}
+use Rattle.std.proofs.Common.{sym, ap, ◌∙◌, Some, inl, inr, arith}
 use Rattle.std.specs.Result.{result_ok}
 use Rattle.line_text.proofs.HexDigits.{result_ok-decode_of, hex_of_sized}
 use Rattle.line_text.proofs.hexadecimal.read_hex.Goals as goal

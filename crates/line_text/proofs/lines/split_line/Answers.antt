@@ -1,7 +1,6 @@
-use Rattle.std.proofs.Common.{◌+◌, ◌∷◌, sym, ap, ◌∙◌, List, ℕ, arith}
+use Rattle.std.proofs.Common.{◌+◌, sym, arith}
 use Rattle.std.proofs.lemmas.List.{take_rest}
 use Rattle.std.proofs.lemmas.Bool.Decides.{nat_tests}
-use Rattle.line_text.specs.Lines.{lines_of}
 use Rattle.line_text.proofs.Cutting.{lines_at_feed, lines_no_feed}
 use Rattle.line_text.proofs.lines.split_line.Goals as goal
 

@@ -1,6 +1,5 @@
-use Rattle.std.proofs.Common.{rules, sym, ◌∙◌, ◌≡◌, ◌<◌, ◌+◌, length, take, arith}
+use Rattle.std.proofs.Common.{rules, sym, ◌∙◌, ◌<◌, length, arith}
 use Rattle.line_text.proofs.Decimal.{decimal_of_large, decimal_of_all, decimal_value_more, digits_more}
-use Rattle.line_text.specs.Number.{decimal_value}
 use Rattle.line_text.proofs.number.decimal.Goals as goal
 
 pub returns-in_err-checked_mul : goal.returns-in_err-checked_mul
