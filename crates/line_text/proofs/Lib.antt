@@ -1,0 +1,4 @@
+pub mod Decimal
+pub mod HexDigits
+pub mod Cutting
+pub mod WordSpans

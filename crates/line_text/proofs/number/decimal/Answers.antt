@@ -1,0 +1,25 @@
+use Rattle.std.proofs.Common.{rules, sym, ◌∙◌, ◌<◌, length, arith}
+use Rattle.line_text.proofs.Decimal.{decimal_of_large, decimal_of_all, decimal_value_more, digits_more}
+use Rattle.line_text.proofs.number.decimal.Goals as goal
+
+pub returns-in_err-checked_mul : goal.returns-in_err-checked_mul
+returns-in_err-checked_mul c =
+    c.from_residual.ensures ∙ sym (decimal_of_large c.args.digits.now c.loop-digit.digit-index (omega arith) (omega (arith, c.in_err-checked_mul.ensures)))
+
+pub returns-in_err-value : goal.returns-in_err-value
+returns-in_err-value c =
+    c.from_residual-in_err-value.ensures ∙ sym (decimal_of_large c.args.digits.now c.loop-digit.digit-index (omega arith) (omega (arith, c.in_ok-checked_mul.ensures, c.from.ensures, c.in_err-value.ensures)))
+
+pub loop-digit-preserved : goal.loop-digit-preserved
+loop-digit-preserved c =
+    let xs = c.args.digits.now in
+    let i = c.loop-digit.digit-index in
+    let within : i < length xs = omega arith in
+    record {
+      digits = digits_more xs i c.is_ascii_digit.result within c.loop-digit.invariant.digits c.is_ascii_digit.ensures.value (search rules);
+      worth = omega (arith, decimal_value_more xs i within, c.in_ok-checked_mul.ensures, c.from.ensures, c.in_ok-value.ensures);
+      fits = omega (arith, c.in_ok-value.ensures);
+    }
+
+pub returns : goal.returns
+returns c = decimal_of_all c.args.digits.now c.loop-digit.digit-index c.loop-digit.value (omega arith) c.loop-digit.invariant.digits c.loop-digit.invariant.worth c.loop-digit.invariant.fits

@@ -1,0 +1,5 @@
+pub mod Hex
+pub mod Lines
+pub mod Number
+pub mod Script
+pub mod Spans

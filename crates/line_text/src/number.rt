@@ -1,0 +1,40 @@
+ghost use Rattle.std.specs.Prelude.{◌≡◌};
+ghost use Rattle.line_text.specs.Number.{decimal_of, number_of, number_in};
+
+/// The number from `least` to `most` that a word is. None comes exactly where the word isn't one: a
+/// number is one or more decimal digits, with no zero in front of others. Digits of any length are
+/// read, and none wrap.
+pub fn read_number(word: &[u8], least: u64, most: u64) -> Option<u64>
+    ensures { result ≡ number_in word.now least most }
+{
+    let number = number(word)?;
+    if least <= number && number <= most {
+        Some(number)
+    } else {
+        None
+    }
+}
+
+fn number(word: &[u8]) -> Option<u64>
+    ensures { result ≡ number_of word.now }
+{
+    match word {
+        [] | [b'0', _, ..] => None,
+        digits => decimal(digits),
+    }
+}
+
+fn decimal(digits: &[u8]) -> Option<u64>
+    ensures { result ≡ decimal_of digits.now }
+{
+    let mut value: u64 = 0;
+    for digit in digits {
+        if !digit.is_ascii_digit() {
+            return None;
+        }
+        value = value
+            .checked_mul(10)?
+            .checked_add(u64::from(*digit - b'0'))?;
+    }
+    Some(value)
+}
