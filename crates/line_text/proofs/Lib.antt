@@ -2,3 +2,4 @@ pub mod Decimal
 pub mod HexDigits
 pub mod Cutting
 pub mod WordSpans
+pub mod RangeLaw

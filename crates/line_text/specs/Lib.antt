@@ -1,5 +1,6 @@
 pub mod Hex
 pub mod Lines
 pub mod Number
+pub mod Ranges
 pub mod Script
 pub mod Spans

@@ -34,6 +34,13 @@ impl Script {
         self.commands.len() as u64
     }
 
+    /// The commands themselves, each with the number of its line.
+    pub fn into_commands(self) -> Vec<(u64, Command)>
+        ensures { result.items ≡ self }
+    {
+        self.commands
+    }
+
     /// A command and the number of its line, by its place, which counts from 0. None comes exactly
     /// at a place from `len` on.
     pub fn get(&self, place: u64) -> Option<(u64, &Command)>
