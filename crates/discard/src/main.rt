@@ -2,6 +2,8 @@
 //! `discard`: soft memory for caches. `discard replay` runs a script of events from the standard input, and writes a
 //! line of reply to each on the standard output.
 
+#[cfg(test)]
+mod tests;
 mod top;
 
 use crate::top::discard;

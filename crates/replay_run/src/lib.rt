@@ -5,6 +5,8 @@ mod config;
 mod replaying;
 mod reply;
 mod run;
+#[cfg(test)]
+mod tests;
 
 pub use config::ReplayCfg;
 pub use replaying::{Differ, Replayed, replay};

@@ -93,6 +93,7 @@ fn text_of(alloc: Global, bytes: Vec<u8>) -> Result<Vec<u8>, ScriptFault>
     ensures { Replies result bytes.items }
 {
     let script = read_script(alloc, &bytes)?;
+    drop(bytes);
     law_in_range();
     match replies(alloc, script) {
         Ok(text) => Ok(text),
