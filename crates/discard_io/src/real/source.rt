@@ -36,7 +36,8 @@ impl<R: Read> Source for StdSource<R> {
     fn read(&mut self, buf: &mut [u8]) -> Result<usize, Failed>
         ensures within { IfOk result (λ n. n ≤ length buf.old) }
         // Where the reader tells its bytes, these are the next ones.
-        ensures bytes { ReadConsumes (R.remaining (reader_of self.old)) (R.remaining (reader_of self.new)) result buf.new }
+        ensures bytes { ReadConsumes
+            (R.remaining (reader_of self.old)) (R.remaining (reader_of self.new)) result buf.new }
         ensures counted { source_faults self.new
             ≡ (if is_ok result then source_faults self.old else next_count (source_faults self.old)) }
         ensures later { source_faults self.old ≤ source_faults self.new }
