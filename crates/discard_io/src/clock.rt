@@ -11,8 +11,8 @@ pub trait Clock {
         ensures { (1 ≤ result) × (result ≤ LAST_MOMENT) };
 }
 
-/// A clock that counts its calls, seen as its first moment. It answers that one first, then one more at each call, and
-/// stays at the last moment.
+/// A clock that counts its calls, seen as its first moment. It answers that one first, then one
+/// more at each call, and stays at the last moment.
 #[derive(Debug, Drop)]
 pub struct CountClock {
     first: u64,

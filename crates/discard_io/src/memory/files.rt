@@ -32,7 +32,8 @@ impl MemFiles {
     pub fn add(&mut self, alloc: Global, name: &str, bytes: &[u8]) -> Result<(), NoMemory>
         ensures added { OnOk result ((other : List ℕ) → bytes_under self.new other
             ≡ (if bytes_eq other name.now then Some bytes.now else bytes_under self.old other)) }
-        ensures same { OnErr result ((other : List ℕ) → bytes_under self.new other ≡ bytes_under self.old other) }
+        ensures same { OnErr result ((other : List ℕ) →
+            bytes_under self.new other ≡ bytes_under self.old other) }
         ensures reads { reads_of self.new ≡ reads_of self.old }
     {
         let name = String::from_str(alloc, name)?;

@@ -30,7 +30,8 @@ impl MemSink {
     /// calls whose numbers stand in `fails`, counted from 1, fail.
     pub fn new(alloc: Global, room: u32, most: u32, fails: &[u64]) -> Result<MemSink, NoMemory>
         requires { 1 ≤ most }
-        ensures { IfOk result (λ sink. sink ≡ record { written = []; room = room; most = most; calls = no_calls fails.now }) }
+        ensures { IfOk result (λ sink.
+            sink ≡ record { written = []; room = room; most = most; calls = no_calls fails.now }) }
     {
         Ok(MemSink {
             bytes: Vec::with_capacity(alloc, room as usize)?,
@@ -58,9 +59,12 @@ impl Sink for MemSink {
             ⊎ ((0 < length piece.now) × (length self.old.written ≡ self.old.room))) }
         ensures count { IfOk result (λ n.
             n ≡ min (min (length piece.now) self.old.most) (self.old.room - length self.old.written)) }
-        ensures appended { IfOk result (λ n. self.new ≡
-            record self.old { written = self.old.written ++ take n piece.now; calls = one_more self.old.calls }) }
-        ensures fault { OnErr result (self.new ≡ record self.old { calls = one_more_failed self.old.calls }) }
+        ensures appended { IfOk result (λ n. self.new ≡ record self.old {
+          written = self.old.written ++ take n piece.now;
+          calls = one_more self.old.calls;
+        }) }
+        ensures fault { OnErr result (
+            self.new ≡ record self.old { calls = one_more_failed self.old.calls }) }
         ensures some { IfOk result (λ n. 0 < length piece.now → 0 < n) }
         ensures later { self.old.calls.faults ≤ self.new.calls.faults }
     {

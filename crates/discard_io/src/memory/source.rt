@@ -31,7 +31,8 @@ impl MemSource {
     /// fail.
     pub fn new(alloc: Global, bytes: &[u8], most: u32, fails: &[u64]) -> Result<MemSource, NoMemory>
         requires { 1 ≤ most }
-        ensures { IfOk result (λ source. source ≡ record { left = bytes.now; most = most; calls = no_calls fails.now }) }
+        ensures { IfOk result (λ source.
+            source ≡ record { left = bytes.now; most = most; calls = no_calls fails.now }) }
     {
         Ok(MemSource {
             left: Remaining::new(alloc, bytes)?,
@@ -48,10 +49,15 @@ impl Source for MemSource {
 
     fn read(&mut self, buf: &mut [u8]) -> Result<usize, Failed>
         ensures fails { IsErr result ↔ NextFails self.old.calls }
-        ensures count { IfOk result (λ n. n ≡ min (min (length buf.old) self.old.most) (length self.old.left)) }
+        ensures count { IfOk result (λ n.
+            n ≡ min (min (length buf.old) self.old.most) (length self.old.left)) }
         ensures moved { IfOk result (λ n. buf.new ≡ take n self.old.left ++ drop n buf.old) }
-        ensures left { IfOk result (λ n. self.new ≡ record self.old { left = drop n self.old.left; calls = one_more self.old.calls }) }
-        ensures fault { OnErr result (self.new ≡ record self.old { calls = one_more_failed self.old.calls }) }
+        ensures left { IfOk result (λ n. self.new ≡ record self.old {
+          left = drop n self.old.left;
+          calls = one_more self.old.calls;
+        }) }
+        ensures fault { OnErr result (
+            self.new ≡ record self.old { calls = one_more_failed self.old.calls }) }
         ensures kept { OnErr result (buf.new ≡ buf.old) }
         ensures end { IfOk result (λ n. n ≡ 0 → 0 < length buf.old → self.old.left ≡ []) }
         ensures later { self.old.calls.faults ≤ self.new.calls.faults }

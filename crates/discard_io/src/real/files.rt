@@ -1,4 +1,4 @@
-ghost use Rattle.std.specs.Prelude.{◌≡◌, ◌≤◌, ◌<◌, ◌^◌, ℕ, None, IfOk, IsErrOf, vec_len};
+ghost use Rattle.std.specs.Prelude.{◌≡◌, ◌≤◌, ◌<◌, ◌^◌, ℕ, None, length, IfOk, IfSome, IsErrOf, MatchOption, vec_len};
 ghost use Rattle.machine.specs.Count.{HasRisen};
 ghost use Rattle.discard_io.specs.Faults.{faults_after};
 ghost use Rattle.discard_io.specs.Streams.{IsAllOf};
@@ -47,9 +47,9 @@ impl<'a, R: rt::Files> Files for DirFiles<'a, R> {
         ensures counted { self.new ≡ faults_after result self.old }
         ensures later { self.old ≤ self.new }
     {
-        match read_front(self.system, alloc, name, most.saturating_add(1)) {
-            Ok(bytes) if bytes.len() as u64 <= most => Ok(bytes),
-            Ok(_) => Err(FileFault::TooLong),
+        match read_file(self.system, alloc, name, most) {
+            Ok(Some(bytes)) => Ok(bytes),
+            Ok(None) => Err(FileFault::TooLong),
             Err(error) if error.kind() == ErrorKind::OutOfMemory => Err(FileFault::NoMemory),
             Err(_) => {
                 self.faults = self.faults.saturating_add(1);
@@ -59,17 +59,38 @@ impl<'a, R: rt::Files> Files for DirFiles<'a, R> {
     }
 }
 
-// The first bytes of a file, at most `most`. Room is taken once, by the length that the system tells, and one byte
-// more, in which the last read finds the end.
-fn read_front<R: rt::Files>(
+// All bytes of a file, or `None` where there are more than `most`.
+fn read_file<R: rt::Files>(
     system: &R,
     alloc: Global,
     name: &str,
     most: u64,
-) -> io::Result<Vec<u8>> {
+) -> io::Result<Option<Vec<u8>>>
+    ensures { IfOk result (λ found. IfSome found (λ bytes. vec_len bytes ≤ most)) }
+{
     let file = fs::open(system, name)?;
-    let len = file.metadata()?.len().min(most) as usize;
-    let mut bytes = Vec::with_capacity(alloc, len.saturating_add(1))?;
-    file.take(most).read_to_end(&mut bytes)?;
-    Ok(bytes)
+    let len = file.metadata()?.len();
+    read_within(alloc, file, len, most)
+}
+
+// All bytes that a reader has left, or `None` where there are more than `most`. Room is taken once, for the number of
+// bytes that is expected and one more, in which the last read finds the end.
+fn read_within<F: Read + Drop>(
+    alloc: Global,
+    file: F,
+    expected: u64,
+    most: u64,
+) -> io::Result<Option<Vec<u8>>>
+    ensures whole { IfOk result (λ found. IfSome (F.remaining file) (λ all.
+        MatchOption found (most < length all) (λ bytes. bytes.items ≡ all))) }
+    ensures within { IfOk result (λ found. IfSome found (λ bytes. vec_len bytes ≤ most)) }
+{
+    let limit = most.saturating_add(1);
+    let room = expected.min(limit) as usize;
+    let mut bytes = Vec::with_capacity(alloc, room.saturating_add(1))?;
+    file.take(limit).read_to_end(&mut bytes)?;
+    if bytes.len() as u64 > most {
+        return Ok(None);
+    }
+    Ok(Some(bytes))
 }

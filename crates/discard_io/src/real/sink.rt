@@ -1,11 +1,11 @@
-ghost use Rattle.std.specs.Prelude.{◌≡◌, ◌≤◌, ◌<◌, ◌^◌, ℕ, None, length, is_ok, if◌then◌else◌, IfOk};
+ghost use Rattle.std.specs.Prelude.{◌≡◌, ◌≤◌, ◌<◌, None, length, take, is_ok, if◌then◌else◌, IfOk};
+ghost use Rattle.std.specs.Io.KnownBytes.{Appends};
 ghost use Rattle.machine.specs.Count.{next_count};
 
 use crate::sink::Sink;
 use crate::status::Failed;
 use std::io;
 use std::io::Write;
-use std::marker::Model;
 
 /// A sink over one of std's writers, such as the standard output, which it flushes after each write. Each error counts
 /// as a fault, and so does a write that takes nothing of a piece that isn't empty. It tells nothing of what was
@@ -16,33 +16,34 @@ pub struct StdSink<W> {
     faults: u64,
 }
 
-impl<W> Model for StdSink<W> {
-    ghost Value = { ℕ };
-
-    ghost view = { λ s. s.faults };
-
-    ghost invariant = { λ s. s.faults < 2 ^ 64 };
-}
-
 impl<W: Write> StdSink<W> {
+    ghost use Rattle.discard_io.specs.Adapters.{writer_of, sink_faults};
+
     /// A sink over this writer.
     pub fn new(writer: W) -> StdSink<W>
-        ensures { result ≡ 0 }
+        ensures writer { writer_of result ≡ writer }
+        ensures faults { sink_faults result ≡ 0 }
     {
         StdSink { writer, faults: 0 }
     }
 }
 
 impl<W: Write> Sink for StdSink<W> {
+    ghost use Rattle.discard_io.specs.Adapters.{writer_of, sink_faults};
+
     ghost written = { λ _. None };
 
-    ghost faults = { λ faults. faults };
+    ghost faults = { λ sink. sink_faults sink };
 
     fn write(&mut self, piece: &[u8]) -> Result<usize, Failed>
         ensures within { IfOk result (λ n. n ≤ length piece.now) }
         ensures some { IfOk result (λ n. 0 < length piece.now → 0 < n) }
-        ensures counted { self.new ≡ (if is_ok result then self.old else next_count self.old) }
-        ensures later { self.old ≤ self.new }
+        // Where the writer tells its bytes, these were appended.
+        ensures bytes { IfOk result (λ n.
+            Appends (W.contents (writer_of self.old)) (W.contents (writer_of self.new)) (take n piece.now)) }
+        ensures counted { sink_faults self.new
+            ≡ (if is_ok result then sink_faults self.old else next_count (sink_faults self.old)) }
+        ensures later { sink_faults self.old ≤ sink_faults self.new }
     {
         match write_and_flush(&mut self.writer, piece) {
             Ok(count) if count > 0 || piece.is_empty() => Ok(count),
@@ -55,7 +56,8 @@ impl<W: Write> Sink for StdSink<W> {
 }
 
 fn write_and_flush<W: Write>(writer: &mut W, piece: &[u8]) -> io::Result<usize>
-    ensures { IfOk result (λ n. n ≤ length piece.now) }
+    ensures within { IfOk result (λ n. n ≤ length piece.now) }
+    ensures bytes { IfOk result (λ n. Appends (W.contents writer.old) (W.contents writer.new) (take n piece.now)) }
 {
     let count = writer.write(piece)?;
     writer.flush()?;
