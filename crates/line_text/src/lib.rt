@@ -19,3 +19,6 @@ pub use line::{Cut, Line};
 pub use lines::cut;
 pub use number::read_number;
 pub use script::{Script, read_script};
+
+#[cfg(test)]
+mod tests;
