@@ -2,3 +2,5 @@ pub mod Decimal
 pub mod HexDigits
 pub mod Cutting
 pub mod WordSpans
+pub mod GrammarLaws
+pub mod RisingNumbers
