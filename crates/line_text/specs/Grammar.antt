@@ -1,5 +1,5 @@
 -- The plain grammar of scripts, to which the reading of lines is held.
-use Rattle.std.specs.Prelude.{◌≡◌, ℕ, ◌<◌, ◌≤◌, ◌⊎◌, List, [], ◌∷◌, ◌++◌, length, Result, Ok, Err}
+use Rattle.std.specs.Prelude.{◌≡◌, ℕ, ◌<◌, ◌≤◌, ◌⊎◌, List, [], ◌∷◌, ◌++◌, length, Ok, Err}
 use Rattle.line_text.specs.Lines.{kept_lines}
 use Rattle.line_text.specs.Script.{Commands, command_of, next_command, grants, cause_number}
 use Rattle.line_text.specs.declared.cause.Cause.{Cause}
