@@ -85,7 +85,14 @@ fn refusals(rt: HostRuntime) {
         (b"grant 1 1", 1, Cause::Count),
         (b"try 0 1 1", 1, Cause::Count),
         (b"# a\n\ngrant 0 1 1", 3, Cause::Number),
+        (b"grant 65 1 1", 1, Cause::Number),
+        (b"grant 1 513 1", 1, Cause::Number),
+        (b"grant 1 1 4611686018427387905", 1, Cause::Number),
         (b"lock 1 512 1", 1, Cause::Number),
+        (b"unlock 1 0 0 1", 1, Cause::Number),
+        (b"write 1 2097152 00", 1, Cause::Number),
+        (b"read 1 0 4097", 1, Cause::Number),
+        (b"try 1 0", 1, Cause::Number),
         (b"write 1 0 abc", 1, Cause::Bytes),
     ] {
         let want = ScriptFault::Bad {
@@ -99,7 +106,11 @@ fn refusals(rt: HostRuntime) {
 #[test]
 fn limits(rt: HostRuntime) -> Result<(), Fail> {
     for (line, times, want) in [
-        (b"grant 1 1 1\n".as_slice(), 1024, None),
+        (b"grant 64 512 1".as_slice(), 1, None),
+        (b"lock 0 511 512", 1, None),
+        (b"write 0 2097151 00", 1, None),
+        (b"read 0 2097151 4096", 1, None),
+        (b"grant 1 1 1\n", 1024, None),
         (b"grant 1 1 1\n", 1025, Some((1025, Cause::Many))),
         (b"try 1 1\n", 4096, None),
         (b"try 1 1\n", 4097, Some((4097, Cause::Many))),
