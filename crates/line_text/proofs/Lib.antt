@@ -2,4 +2,6 @@ pub mod Decimal
 pub mod HexDigits
 pub mod Cutting
 pub mod WordSpans
+pub mod GrammarLaws
+pub mod RisingNumbers
 pub mod RangeLaw

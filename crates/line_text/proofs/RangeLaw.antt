@@ -58,7 +58,7 @@ hex_length (h ∷ l ∷ digits) content e =
     let low = bind_some (hex_digit l) _ content high.2 in
     let rest = bind_some (hex_bytes digits) _ content low.2 in
     some_same (λ bs. 2 * length bs ≡ length (h ∷ l ∷ digits)) ((high.0 * 16 + low.0) ∷ rest.0) content (Some ((high.0 * 16 + low.0) ∷ rest.0)) rest.2 refl
-        (omega (arith, hex_length digits rest.0 rest.1))
+    (omega (arith, hex_length digits rest.0 rest.1))
 
 hex_between : (word content : List ℕ) (b : Bool) → (nat_le 2 (length word) && nat_le (length word) 8192) ≡ b
     → ok_or (cond b (hex_bytes word) None) cause.Bytes ≡ Ok content → IsBetween 1 4096 (length content)
@@ -82,7 +82,7 @@ grant_in (c ∷ n ∷ t ∷ []) command e =
     let pages = bind_ok (number n 1 512) _ command owner.2 in
     let at = bind_ok (number t 1 (2 ^ 62)) _ command pages.2 in
     ok_same IsInRange (Grant owner.0 pages.0 at.0) command (Ok (Grant owner.0 pages.0 at.0)) at.2 refl
-        (number_between c 1 64 owner.0 owner.1, number_between n 1 512 pages.0 pages.1, number_between t 1 (2 ^ 62) at.0 at.1)
+    (number_between c 1 64 owner.0 owner.1, number_between n 1 512 pages.0 pages.1, number_between t 1 (2 ^ 62) at.0 at.1)
 grant_in _ command e = cc
 
 lock_in : (words : List (List ℕ)) (command : Command) → lock words ≡ Ok command → IsInRange command
@@ -91,7 +91,7 @@ lock_in (s ∷ f ∷ n ∷ []) command e =
     let first = bind_ok (number f 0 511) _ command id.2 in
     let count = bind_ok (number n 1 512) _ command first.2 in
     ok_same IsInRange (Lock id.0 first.0 count.0) command (Ok (Lock id.0 first.0 count.0)) count.2 refl
-        (number_between f 0 511 first.0 first.1, number_between n 1 512 count.0 count.1)
+    (number_between f 0 511 first.0 first.1, number_between n 1 512 count.0 count.1)
 lock_in _ command e = cc
 
 unlock_in : (words : List (List ℕ)) (command : Command) → unlock words ≡ Ok command → IsInRange command
@@ -101,7 +101,7 @@ unlock_in (s ∷ f ∷ n ∷ t ∷ []) command e =
     let count = bind_ok (number n 1 512) _ command first.2 in
     let at = bind_ok (number t 1 (2 ^ 62)) _ command count.2 in
     ok_same IsInRange (Unlock id.0 first.0 count.0 at.0) command (Ok (Unlock id.0 first.0 count.0 at.0)) at.2 refl
-        (number_between f 0 511 first.0 first.1, number_between n 1 512 count.0 count.1, number_between t 1 (2 ^ 62) at.0 at.1)
+    (number_between f 0 511 first.0 first.1, number_between n 1 512 count.0 count.1, number_between t 1 (2 ^ 62) at.0 at.1)
 unlock_in _ command e = cc
 
 write_in : (words : List (List ℕ)) (command : Command) → write words ≡ Ok command → IsInRange command
@@ -110,7 +110,7 @@ write_in (s ∷ p ∷ h ∷ []) command e =
     let place = bind_ok (number p 0 2097151) _ command id.2 in
     let content = bind_ok (bytes h) _ command place.2 in
     ok_same IsInRange (Write id.0 place.0 content.0) command (Ok (Write id.0 place.0 content.0)) content.2 refl
-        (number_between p 0 2097151 place.0 place.1, bytes_between h content.0 content.1)
+    (number_between p 0 2097151 place.0 place.1, bytes_between h content.0 content.1)
 write_in _ command e = cc
 
 read_in : (words : List (List ℕ)) (command : Command) → read words ≡ Ok command → IsInRange command
@@ -119,7 +119,7 @@ read_in (s ∷ p ∷ r ∷ []) command e =
     let place = bind_ok (number p 0 2097151) _ command id.2 in
     let count = bind_ok (number r 1 4096) _ command place.2 in
     ok_same IsInRange (Read id.0 place.0 count.0) command (Ok (Read id.0 place.0 count.0)) count.2 refl
-        (number_between p 0 2097151 place.0 place.1, number_between r 1 4096 count.0 count.1)
+    (number_between p 0 2097151 place.0 place.1, number_between r 1 4096 count.0 count.1)
 read_in _ command e = cc
 
 try_in : (words : List (List ℕ)) (command : Command) → try_purge words ≡ Ok command → IsInRange command
@@ -145,13 +145,13 @@ command_in : (words : List (List ℕ)) (command : Command) → command_of words 
 command_in [] command e = refused_is_not (IsInRange command) cause.Word command e
 command_in (name ∷ words) command e =
     named_in (bytes_eq name (codes "grant")) (bytes_eq name (codes "lock")) (bytes_eq name (codes "unlock")) (bytes_eq name (codes "write"))
-        (bytes_eq name (codes "read")) (bytes_eq name (codes "try")) words command e
+    (bytes_eq name (codes "read")) (bytes_eq name (codes "try")) words command e
 
 next_in : (before : Commands) (words : List (List ℕ)) (command : Command) → next_command before words ≡ Ok command → IsInRange command
 next_in before words command e =
     let found = bind_ok (command_of words) _ command e in
     either (IsInRange command) (is_one_too_many before found.0) _ _ _ found.2 (λ many. cc)
-        (λ kept. ok_same IsInRange found.0 command (Ok found.0) kept refl (command_in words found.0 found.1))
+    (λ kept. ok_same IsInRange found.0 command (Ok found.0) kept refl (command_in words found.0 found.1))
 
 at_line_ok : (place : ℕ) (r : Result Command Cause) (command : Command) → at_line place r ≡ Ok command → r ≡ Ok command
 at_line_ok place (Ok x) command e = ap (λ y. Ok y) (let same : x ≡ command = cc in same)
@@ -166,7 +166,7 @@ after_in before [] commands w e = ok_same AreInRange before commands (Ok before)
 after_in before (line ∷ lines) commands w e =
     let next = bind_ok (at_line line.0 (next_command before line.1)) _ commands e in
     after_in (before ++ (line.0, next.0) ∷ []) lines commands
-        (all_push before (line.0, next.0) w (next_in before line.1 next.0 (at_line_ok line.0 (next_command before line.1) next.0 next.1))) next.2
+    (all_push before (line.0, next.0) w (next_in before line.1 next.0 (at_line_ok line.0 (next_command before line.1) next.0 next.1))) next.2
 
 pub script_in : (text : List ℕ) (commands : Commands) → script_of text ≡ Ok commands → AreInRange commands
 script_in text commands e =

@@ -1,3 +1,4 @@
+pub mod Grammar
 pub mod Hex
 pub mod Lines
 pub mod Number

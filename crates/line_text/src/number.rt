@@ -1,4 +1,4 @@
-ghost use Rattle.std.specs.Prelude.{◌≡◌};
+ghost use Rattle.std.specs.Prelude.{◌≡◌, ◌<◌, ◌≤◌, ◌+◌, ◌-◌, ◌*◌, ◌^◌, IfSome, IfNone};
 ghost use Rattle.line_text.specs.Number.{decimal_of, number_of, number_in};
 
 /// The number from `least` to `most` that a word is. None comes exactly where the word isn't one: a
@@ -32,9 +32,17 @@ fn decimal(digits: &[u8]) -> Option<u64>
         if !digit.is_ascii_digit() {
             return None;
         }
-        value = value
-            .checked_mul(10)?
-            .checked_add(u64::from(*digit - b'0'))?;
+        value = with_digit(value, *digit)?;
     }
     Some(value)
+}
+
+/// The number with one digit more at its end, if it fits.
+fn with_digit(number: u64, digit: u8) -> Option<u64>
+    requires { 48 ≤ digit }
+    ensures some { IfSome result (λ more. more ≡ number * 10 + (digit - 48)) }
+    ensures fits { IfSome result (λ more. more < 2 ^ 64) }
+    ensures none { IfNone result (2 ^ 64 ≤ number * 10 + (digit - 48)) }
+{
+    number.checked_mul(10)?.checked_add(u64::from(digit - b'0'))
 }

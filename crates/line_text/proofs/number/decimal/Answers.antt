@@ -2,13 +2,9 @@ use Rattle.std.proofs.Common.{rules, sym, ◌∙◌, ◌<◌, length, arith}
 use Rattle.line_text.proofs.Decimal.{decimal_of_large, decimal_of_all, decimal_value_more, digits_more}
 use Rattle.line_text.proofs.number.decimal.Goals as goal
 
-pub returns-in_err-checked_mul : goal.returns-in_err-checked_mul
-returns-in_err-checked_mul c =
-    c.from_residual.ensures ∙ sym (decimal_of_large c.args.digits.now c.loop-digit.digit-index (omega arith) (omega (arith, c.in_err-checked_mul.ensures)))
-
 pub returns-in_err-value : goal.returns-in_err-value
 returns-in_err-value c =
-    c.from_residual-in_err-value.ensures ∙ sym (decimal_of_large c.args.digits.now c.loop-digit.digit-index (omega arith) (omega (arith, c.in_ok-checked_mul.ensures, c.from.ensures, c.in_err-value.ensures)))
+    c.from_residual.ensures ∙ sym (decimal_of_large c.args.digits.now c.loop-digit.digit-index (omega arith) (omega (arith, c.in_err-value.ensures.none)))
 
 pub loop-digit-preserved : goal.loop-digit-preserved
 loop-digit-preserved c =
@@ -17,8 +13,8 @@ loop-digit-preserved c =
     let within : i < length xs = omega arith in
     record {
       digits = digits_more xs i c.is_ascii_digit.result within c.loop-digit.invariant.digits c.is_ascii_digit.ensures.value (search rules);
-      worth = omega (arith, decimal_value_more xs i within, c.in_ok-checked_mul.ensures, c.from.ensures, c.in_ok-value.ensures);
-      fits = omega (arith, c.in_ok-value.ensures);
+      worth = omega (arith, decimal_value_more xs i within, c.in_ok-value.ensures.some);
+      fits = c.in_ok-value.ensures.fits;
     }
 
 pub returns : goal.returns
