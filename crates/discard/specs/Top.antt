@@ -1,5 +1,5 @@
 -- What a run of the program is.
-use Rattle.std.specs.Prelude.{◌≡◌, ℕ, Bool, true, false, List, [], ◌∷◌, codes, IsNone}
+use Rattle.std.specs.Prelude.{◌≡◌, ℕ, Bool, false, List, [], ◌∷◌, codes, IsNone}
 use Rattle.std.specs.Str.{bytes_eq}
 use Rattle.discard_io.specs.declared.status.Status.{Status}
 use Rattle.discard_io.specs.declared.status.Status.TheVariants.{Done}

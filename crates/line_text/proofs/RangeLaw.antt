@@ -1,6 +1,5 @@
 -- The commands of a script are in their ranges.
-use Rattle.std.proofs.Common.{◌≡◌, ℕ, ◌^◌, ◌+◌, ◌-◌, ◌*◌, ◌≤◌, nat_le, nat_lt, Bool, true, false, ◌&&◌, cond, List, [], ◌∷◌, ◌++◌, length, Option, Some, None, Result, Ok, Err, refl, sym, ap, ◌∙◌, subst, arith, codes}
-use Rattle.std.specs.List.{AllByRecursion}
+use Rattle.std.proofs.Common.{◌≡◌, ℕ, ◌^◌, ◌+◌, ◌-◌, ◌*◌, ◌≤◌, nat_le, nat_lt, Bool, true, false, ◌&&◌, cond, List, [], ◌∷◌, ◌++◌, length, Option, Some, None, Result, Ok, Err, refl, ap, subst, arith, codes}
 use Rattle.std.specs.Str.{bytes_eq}
 use Rattle.std.specs.Option.{ok_or, option_and_then}
 use Rattle.std.proofs.lemmas.Bool.Decides.{nat_tests}
@@ -10,8 +9,8 @@ use Rattle.line_text.specs.declared.command.Command.{Command}
 use Rattle.line_text.specs.declared.command.Command.TheVariants.{Grant, Lock, Unlock, Write, Read, Try}
 use Rattle.line_text.specs.Number.{number_of, within}
 use Rattle.line_text.specs.Lines.{kept_lines}
-use Rattle.line_text.specs.Hex.{hex_of, hex_bytes, hex_digit}
-use Rattle.line_text.specs.Script.{◌>>=◌, Commands, Refusal, number, bytes, grant, lock, unlock, write, read, try_purge, command_of, next_command, is_one_too_many, at_line, commands_after, script_of}
+use Rattle.line_text.specs.Hex.{hex_bytes, hex_digit}
+use Rattle.line_text.specs.Script.{◌>>=◌, Commands, number, bytes, grant, lock, unlock, write, read, try_purge, command_of, next_command, is_one_too_many, at_line, commands_after, script_of}
 use Rattle.line_text.specs.Ranges.{IsBetween, IsInRange, AreInRange}
 
 -- what a first step gave, and what the second made of it

@@ -1,5 +1,5 @@
 -- What a run of a script keeps.
-use Rattle.std.specs.Prelude.{◌≡◌, ℕ, List, [], ◌∷◌, ◌++◌}
+use Rattle.std.specs.Prelude.{◌≡◌, List, [], ◌∷◌, ◌++◌}
 use Rattle.std.specs.List.{count_by}
 use Rattle.machine.specs.declared.event.Event.{Event}
 use Rattle.machine.specs.Segments.{StandsFor}

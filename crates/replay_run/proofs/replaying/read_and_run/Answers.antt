@@ -1,4 +1,4 @@
-use Rattle.std.proofs.Common.{◌≤◌, length, arith, refl}
+use Rattle.std.proofs.Common.{arith, refl}
 use Rattle.replay_run.proofs.Refusals.{refused}
 use Rattle.replay_run.proofs.replaying.read_and_run.Goals as goal
 
