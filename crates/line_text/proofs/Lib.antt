@@ -4,3 +4,4 @@ pub mod Cutting
 pub mod WordSpans
 pub mod GrammarLaws
 pub mod RisingNumbers
+pub mod NumberLaws
