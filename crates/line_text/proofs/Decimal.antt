@@ -24,11 +24,11 @@ pub decimal_value_more : (xs : List ℕ) (i : ℕ) → i < length xs → decimal
 decimal_value_more xs i h =
     ap decimal_value (take_more xs i 0 h) ∙ (decimal_value-append (take i xs) (get_or xs i 0 ∷ []) ∙ omega arith)
 
-raised : (v p : ℕ) → 1 ≤ p → v ≤ v * p
+pub raised : (v p : ℕ) → 1 ≤ p → v ≤ v * p
 raised v zero h = absurd (omega arith)
 raised v (suc p) h = omega arith
 
-power_positive : (n : ℕ) → 1 ≤ 10 ^ n
+pub power_positive : (n : ℕ) → 1 ≤ 10 ^ n
 power_positive zero = omega arith
 power_positive (suc n) = let ih = power_positive n in omega arith
 

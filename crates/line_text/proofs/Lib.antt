@@ -4,4 +4,5 @@ pub mod Cutting
 pub mod WordSpans
 pub mod GrammarLaws
 pub mod RisingNumbers
+pub mod NumberLaws
 pub mod RangeLaw

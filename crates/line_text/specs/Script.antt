@@ -61,6 +61,7 @@ bytes word = ok_or (hex_of word) cause.Bytes
 
 -- ---- the words behind a command's own, from left to right
 
+-- `grant` C N T: a segment of N pages for the client C at T
 abbrev pub grant : List (List ℕ) → Result Command Cause
 grant (c ∷ n ∷ t ∷ []) = do
   owner ← client c
@@ -69,6 +70,7 @@ grant (c ∷ n ∷ t ∷ []) = do
   Ok (Grant owner pages at)
 grant words = Err cause.Count
 
+-- `lock` S F N: N pages of the segment S from F on
 abbrev pub lock : List (List ℕ) → Result Command Cause
 lock (s ∷ f ∷ n ∷ []) = do
   id ← segment s
@@ -77,6 +79,7 @@ lock (s ∷ f ∷ n ∷ []) = do
   Ok (Lock id first count)
 lock words = Err cause.Count
 
+-- `unlock` S F N T: N pages of the segment S from F on, at T
 abbrev pub unlock : List (List ℕ) → Result Command Cause
 unlock (s ∷ f ∷ n ∷ t ∷ []) = do
   id ← segment s
@@ -86,6 +89,7 @@ unlock (s ∷ f ∷ n ∷ t ∷ []) = do
   Ok (Unlock id first count at)
 unlock words = Err cause.Count
 
+-- `write` S P HEX: these bytes of the segment S from P on
 abbrev pub write : List (List ℕ) → Result Command Cause
 write (s ∷ p ∷ h ∷ []) = do
   id ← segment s
@@ -94,6 +98,7 @@ write (s ∷ p ∷ h ∷ []) = do
   Ok (Write id place content)
 write words = Err cause.Count
 
+-- `read` S P R: R bytes of the segment S from P on
 abbrev pub read : List (List ℕ) → Result Command Cause
 read (s ∷ p ∷ r ∷ []) = do
   id ← segment s
@@ -102,6 +107,7 @@ read (s ∷ p ∷ r ∷ []) = do
   Ok (Read id place count)
 read words = Err cause.Count
 
+-- `try` S T: a try to purge the segment S at T
 abbrev pub try_purge : List (List ℕ) → Result Command Cause
 try_purge (s ∷ t ∷ []) = do
   id ← segment s
@@ -138,6 +144,7 @@ is_grant _ = false
 abbrev pub Commands : Type 0
 Commands = List (ℕ × Command)
 
+-- how many of the commands may be granted a segment
 abbrev pub grants : Commands → ℕ
 grants commands = count_by (λ c. is_grant c.1) commands
 
@@ -170,6 +177,7 @@ pub record Refusal : Type 0 where
   pub place : ℕ
   pub cause : ℕ
 
+-- the refusal at a place for a cause
 abbrev pub refusal : ℕ → Cause → Refusal
 refusal place why = record { place = place; cause = cause_number why }
 

@@ -1,8 +1,16 @@
-ghost use Rattle.std.specs.Prelude.{ℕ, List, ◌∷◌, ◌↔◌, map};
+ghost use Rattle.std.specs.Fmt.{decimal};
+ghost use Rattle.std.specs.Prelude.{◌≡◌, ◌<◌, ◌^◌, ℕ, List, ◌∷◌, ◌↔◌, map};
 ghost use Rattle.std.specs.List.Sorted.{IsStrictlyIncreasing};
 ghost use Rattle.line_text.specs.Grammar.{IsSpelled, IsFaulty};
+ghost use Rattle.line_text.specs.Number.{number_of};
 ghost use Rattle.line_text.specs.Script.{Commands, IsScript, IsRefused};
 ghost use Rattle.line_text.specs.Ranges.{AreInRange};
+
+/// A word is a number exactly where it is how that number is written in decimal digits, and the
+/// number is below 2^64. So each number has one spelling, and what is written is read again.
+pub fn law_one_spelling()
+    ensures { (word : List ℕ) (n : ℕ) → ((number_of word ≡ Some n) ↔ ((n < 2 ^ 64) × (word ≡ decimal n))) }
+{}
 
 /// A text is a script of some commands exactly where the plain grammar spells them: it is no longer
 /// than 1,048,576 bytes, its lines that aren't skipped are these commands, one by one, and there are

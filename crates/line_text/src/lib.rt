@@ -16,7 +16,9 @@ pub use cause::Cause;
 pub use command::Command;
 pub use fault::ScriptFault;
 pub use hexadecimal::read_hex;
-pub use laws::{law_first_refusal, law_in_range, law_lines_rise, law_scripts_are_spelled};
+pub use laws::{
+    law_first_refusal, law_in_range, law_lines_rise, law_one_spelling, law_scripts_are_spelled,
+};
 pub use line::{Cut, Line};
 pub use lines::cut;
 pub use number::read_number;
