@@ -1,0 +1,95 @@
+ghost use Rattle.std.specs.Prelude.{◌≡◌, ◌⊎◌, ◌≤◌, ℕ, List, IfOk, length};
+ghost use Rattle.tile_source.specs.Tile.{IsTile, reply};
+ghost use Rattle.line_text.specs.Script.{Refusal};
+ghost use Rattle.discard.specs.TileRun.{drives, TileEnds, Refuses};
+
+use discard_io::{FileFault, Files, Sink, Status, write_all};
+use machine::NoMemory;
+use std::alloc::Global;
+use tile_source::{Image, ImageMaker, PgmFault, Tile, TileMaker, pgm_head, read_pgm};
+
+/// The most bytes that a file has: an image of 8,192 by 8,192 samples of two bytes, and a header.
+const MOST_BYTES: u64 = 134_283_264;
+
+/// The cause of a file that has more.
+const TOO_LONG: u32 = 16;
+
+/// Writes one tile of the image in a file, with a head of its own.
+pub(crate) fn write_tile<O: Sink, F: Files>(
+    alloc: Global,
+    file: &str,
+    tile: Tile,
+    side: u32,
+    out: &mut O,
+    files: &mut F,
+) -> Status
+    requires tile { IsTile tile }
+    requires side { (side ≡ 64) ⊎ (side ≡ 128) ⊎ (side ≡ 256) }
+    ensures ends { TileEnds side tile result
+        (drives (F.bytes files.old file.now) (F.faults files.old) (O.written out.old) (O.faults out.old))
+        (drives (F.bytes files.new file.now) (F.faults files.new) (O.written out.new) (O.faults out.new)) }
+    ensures files { (name : List ℕ) → F.bytes files.new name ≡ F.bytes files.old name }
+    ensures reads { F.faults files.old ≤ F.faults files.new }
+    ensures writes { O.faults out.old ≤ O.faults out.new }
+{
+    let bytes = match files.read_all(alloc, file, MOST_BYTES) {
+        Ok(bytes) => bytes,
+        Err(FileFault::Failed) => return Status::FileFault,
+        Err(FileFault::TooLong) => {
+            return Status::BadInput {
+                place: MOST_BYTES,
+                cause: TOO_LONG,
+            };
+        }
+        Err(FileFault::NoMemory) => return Status::NoMemory,
+    };
+    let len = bytes.len() as u64;
+    let image = match image_of(alloc, bytes) {
+        Ok(image) => image,
+        Err(fault) => return status_of(len, fault),
+    };
+    let text = match text_of(alloc, &image, tile, side) {
+        Ok(text) => text,
+        Err(NoMemory) => return Status::NoMemory,
+    };
+    match write_all(out, &text) {
+        Ok(()) => Status::Done,
+        Err(_) => Status::WriteFault,
+    }
+}
+
+/// The image in the bytes of a file, which are let go.
+fn image_of(alloc: Global, bytes: Vec<u8>) -> Result<Image, PgmFault>
+    ensures { IsReading result (pgm_of bytes.items) }
+{
+    read_pgm(alloc, &bytes)
+}
+
+/// The status for a fault of a file of so many bytes.
+fn status_of(len: u64, fault: PgmFault) -> Status
+    ensures { Refuses len fault result }
+{
+    let (place, cause) = match fault {
+        PgmFault::BadMagic => (0, 11),
+        PgmFault::BadNumber { at } => (at, 12),
+        PgmFault::TooLarge { at } => (at, 13),
+        PgmFault::Short { .. } => (len, 14),
+        PgmFault::WideSamples { at } => (at, 15),
+        PgmFault::NoMemory => return Status::NoMemory,
+    };
+    Status::BadInput { place, cause }
+}
+
+/// A tile of an image with its head.
+fn text_of(alloc: Global, image: &Image, tile: Tile, side: u32) -> Result<Vec<u8>, NoMemory>
+    requires tile { IsTile tile }
+    requires side { (side ≡ 64) ⊎ (side ≡ 128) ⊎ (side ≡ 256) }
+    ensures { IfOk result (λ text. text.items ≡ reply image.now side (tile ∷ [])) }
+{
+    let mut text = pgm_head(alloc, side, image.maxval())?;
+    let head = text.len();
+    let mut maker = ImageMaker::new(image, side);
+    text.resize(head + maker.length() as usize, 0)?;
+    maker.make(tile, &mut text[head..]);
+    Ok(text)
+}
