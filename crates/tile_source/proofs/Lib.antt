@@ -1,0 +1,5 @@
+pub mod Numbers
+pub mod Powers
+pub mod Readings
+pub mod Sums
+pub mod Tiles

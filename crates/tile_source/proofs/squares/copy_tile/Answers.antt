@@ -1,0 +1,12 @@
+use Rattle.std.proofs.Common.{◌+◌, ◌*◌, arith, ap, ◌∙◌}
+use Rattle.tile_source.specs.Image.{pixel}
+use Rattle.tile_source.proofs.Sums.{pixel_zero}
+use Rattle.tile_source.proofs.Tiles.{row_filled, length-row}
+use Rattle.tile_source.proofs.squares.copy_tile.Goals as goal
+
+pub loop-v-preserved : goal.loop-v-preserved
+loop-v-preserved c =
+    let wide = length-row c.loop-v.out c.loop-v.v c.args.side (omega arith) c.loop-v-test.true in
+    row_filled (λ v u. pixel c.args.image.now 0 (c.args.x * c.args.side + u) (c.args.y * c.args.side + v))
+    c.loop-v.out c.copy_row.new.row c.loop-v.v c.args.side (omega arith) c.loop-v-test.true (omega arith)
+    (λ k h. c.copy_row.ensures k (omega arith) ∙ pixel_zero c.args.image.now _ _) c.loop-v.invariant

@@ -1,0 +1,15 @@
+#![tactic(auto)]
+//! Grey images of the form P5, and their tiles: square pieces of one size, at seven zooms.
+
+mod fault;
+mod image;
+mod maker;
+mod pgm;
+mod squares;
+mod tile;
+
+pub use fault::PgmFault;
+pub use image::Image;
+pub use maker::ImageMaker;
+pub use pgm::read_pgm;
+pub use tile::{Tile, TileMaker, pgm_head};
