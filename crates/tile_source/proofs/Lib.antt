@@ -2,4 +2,4 @@ pub mod Numbers
 pub mod Powers
 pub mod Readings
 pub mod Sums
-pub mod Tiles
+pub mod TileRows

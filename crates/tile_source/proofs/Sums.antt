@@ -1,6 +1,6 @@
-use Rattle.std.proofs.Common.{◌≡◌, ℕ, zero, suc, ◌+◌, ◌*◌, ◌-◌, ◌<◌, ◌≤◌, List, ◌/◌, ◌^◌, length, take, drop, get_or, sum, refl, min, inl, inr, rules, arith, ◌∙◌, sym, ap}
+use Rattle.std.proofs.Common.{◌≡◌, ℕ, zero, suc, ◌+◌, ◌*◌, ◌-◌, ◌<◌, ◌≤◌, List, ◌/◌, ◌^◌, length, take, drop, get_or, replicate, sum, refl, min, inl, inr, rules, arith, ◌∙◌, sym, ap}
 use Rattle.std.proofs.lemmas.List.Sums.{sum_by_more}
-use Rattle.std.proofs.lemmas.List.{take_all, get_or-drop, length-drop, drop-drop, drop-take, take-take}
+use Rattle.std.proofs.lemmas.List.{get_or-replicate, take_all, get_or-drop, length-drop, drop-drop, drop-take, take-take}
 use Rattle.std.proofs.lemmas.Bool.Decides.{nat_tests}
 use Rattle.std.proofs.lemmas.Bool.{cases_lt}
 use Rattle.std.proofs.lemmas.Nat.{row_fits, pow_pos}
@@ -153,3 +153,31 @@ piece_bounded all n columns lines h narrow flat =
     let wide : columns * lines ≤ n * lines = mul-le-mul_right lines narrow in
     let deep : lines * n ≤ n * n = mul-le-mul_right n flat in
     omega arith
+
+-- the sum of two functions
+sum_below_both : (f g : ℕ → ℕ) (n : ℕ) → sum_below (λ i. f i + g i) n ≡ sum_below f n + sum_below g n
+sum_below_both f g zero = refl
+sum_below_both f g (suc n) =
+    let before : sum_below (λ i. f i + g i) n ≡ sum_below f n + sum_below g n = sum_below_both f g n in
+    omega arith
+
+-- a rectangle may be summed by rows or by columns
+sum_below_turned : (f : ℕ → ℕ → ℕ) (n m : ℕ) → sum_below (λ i. sum_below (f i) m) n ≡ sum_below (λ j. sum_below (λ i. f i j) n) m
+sum_below_turned f n zero = sum_below_zero (λ i. 0) n (λ k h. refl)
+sum_below_turned f n (suc m) =
+    sum_below_both (λ i. sum_below (f i) m) (λ i. f i m) n
+    ∙ ap (λ q. q + sum_below (λ i. f i m) n) (sum_below_turned f n m)
+
+-- a pixel by the sums of its columns
+pub pixel_by_columns : (image : ImageValue) (sums : List ℕ) (z x y n count lines k : ℕ) → n ≡ 2 ^ z → lines ≤ n → (lines < n → image.height ≤ y * n + lines) → length sums ≡ count * n → ((i : ℕ) → i < count * n → get_or sums i 0 ≡ sum_below (λ j. sample image (x * n + i) (y * n + j)) lines) → k < count → mean z (sum (take n (drop (k * n) sums))) ≡ pixel image z (x + k) y
+pixel_by_columns image sums z x y n count lines k scale flat bottom long each below =
+    let fits : k * n + n ≤ count * n = row_fits k n count n below (omega arith) in
+    pixel_inside image z x y n k lines (sum (take n (drop (k * n) sums))) scale flat bottom
+    (sum_of_part sums (k * n) n (omega arith)
+    ∙ (sum_below_same (λ i. get_or sums (k * n + i) 0) (λ i. sum_below (λ j. sample image (x * n + k * n + i) (y * n + j)) lines) n
+      (λ i h. each (k * n + i) (omega arith) ∙ ap (λ m. sum_below (λ j. sample image m (y * n + j)) lines) (omega arith))
+    ∙ sum_below_turned (λ i j. sample image (x * n + k * n + i) (y * n + j)) n lines))
+
+-- a row of zeros
+pub zero_at : (row : List ℕ) (len k : ℕ) → row ≡ replicate len 0 → k < len → get_or row k 0 ≡ 0
+zero_at row len k is below = ap (λ (xs : List ℕ). get_or xs k 0) is ∙ get_or-replicate len k 0 0 below

@@ -1,12 +1,15 @@
 #![tactic(auto)]
 //! Grey images of the form P5, and their tiles: square pieces of one size, at seven zooms.
 
+mod columns;
 mod fault;
 mod image;
 mod maker;
+mod mean;
+mod parts;
 mod pgm;
-mod squares;
 mod tile;
+mod tiles;
 
 pub use fault::PgmFault;
 pub use image::Image;

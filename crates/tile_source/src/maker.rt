@@ -1,7 +1,7 @@
 ghost use Rattle.std.specs.Prelude.{◌≡◌, ◌⊎◌};
 
 use crate::image::Image;
-use crate::squares::fill_tile;
+use crate::tiles::fill_tile;
 use crate::tile::{Tile, TileMaker};
 use std::marker::Model;
 

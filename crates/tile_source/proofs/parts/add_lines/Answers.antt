@@ -1,7 +1,7 @@
 use Rattle.std.proofs.Common.{◌≡◌, ◌≤◌, ◌+◌, ◌*◌, length, get_or, sum, take, drop, arith}
 use Rattle.tile_source.specs.Image.{row_sum}
 use Rattle.tile_source.proofs.Sums.{part_of_line, sum_below_more}
-use Rattle.tile_source.proofs.squares.add_lines.Goals as goal
+use Rattle.tile_source.proofs.parts.add_lines.Goals as goal
 
 pub loop-line-preserved : goal.loop-line-preserved
 loop-line-preserved g c =

@@ -1,6 +1,6 @@
 use Rattle.std.proofs.Common.{◌≡◌, ℕ, ◌<◌, ◌≤◌, get_or}
 use Rattle.tile_source.specs.Image.{mean}
-use Rattle.tile_source.proofs.squares.write_means.Given as goal
+use Rattle.tile_source.proofs.parts.write_means.Given as goal
 
 abbrev pub invariant-loop-column : goal.invariant-loop-column
 invariant-loop-column l =

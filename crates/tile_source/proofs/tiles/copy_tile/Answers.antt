@@ -1,8 +1,8 @@
 use Rattle.std.proofs.Common.{◌+◌, ◌*◌, arith, ap, ◌∙◌}
 use Rattle.tile_source.specs.Image.{pixel}
 use Rattle.tile_source.proofs.Sums.{pixel_zero}
-use Rattle.tile_source.proofs.Tiles.{row_filled, length-row}
-use Rattle.tile_source.proofs.squares.copy_tile.Goals as goal
+use Rattle.tile_source.proofs.TileRows.{row_filled, length-row}
+use Rattle.tile_source.proofs.tiles.copy_tile.Goals as goal
 
 pub loop-v-preserved : goal.loop-v-preserved
 loop-v-preserved c =

@@ -1,6 +1,6 @@
 use Rattle.std.proofs.Common.{◌≡◌, ◌+◌, ◌*◌, ◌≤◌}
 use Rattle.tile_source.specs.Image.{row_sum, sum_below}
-use Rattle.tile_source.proofs.squares.piece_sum.Given as goal
+use Rattle.tile_source.proofs.parts.piece_sum.Given as goal
 
 abbrev pub invariant-loop-line : goal.invariant-loop-line
 invariant-loop-line l =

@@ -1,6 +1,6 @@
 use Rattle.std.proofs.Common.{◌≡◌, ℕ, ◌+◌, ◌*◌, ◌<◌, ◌≤◌, get_or, length}
 use Rattle.tile_source.specs.Image.{row_sum, sum_below}
-use Rattle.tile_source.proofs.squares.add_lines.Given as goal
+use Rattle.tile_source.proofs.parts.add_lines.Given as goal
 
 abbrev pub invariant-loop-line : goal.invariant-loop-line
 invariant-loop-line g l =

@@ -1,5 +1,5 @@
 use Rattle.std.proofs.Common.{◌≡◌, ℕ, ◌+◌, ◌*◌, ◌<◌, ◌≤◌, get_or, sum, take, drop}
-use Rattle.tile_source.proofs.squares.add_line.Given as goal
+use Rattle.tile_source.proofs.parts.add_line.Given as goal
 
 abbrev pub invariant-loop-column : goal.invariant-loop-column
 invariant-loop-column g l =

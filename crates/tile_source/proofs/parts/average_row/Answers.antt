@@ -5,13 +5,9 @@ use Rattle.std.proofs.lemmas.Nat.{div-add-mod'}
 use Rattle.std.proofs.Math.Nat.{mul-le-mul_right, lt-div-mul-add}
 use Rattle.tile_source.specs.Image.{mean, pixel}
 use Rattle.tile_source.proofs.Powers.{bounded}
-use Rattle.tile_source.proofs.Sums.{pixel_inside, pixel_across, pixel_outside, beyond, across, lines_reach, piece_bounded}
-use Rattle.tile_source.proofs.squares.average_row.Goals as goal
-use Rattle.tile_source.proofs.squares.average_row.Goals.{then-columns-eq0-via-then-columns-eq0, then-columns-eq0-via-else-columns-eq0+then-lines-eq0}
-
--- a row of zeros
-zero : (row : List ℕ) (len k : ℕ) → row ≡ replicate len 0 → k < len → get_or row k 0 ≡ 0
-zero row len k is below = ap (λ (xs : List ℕ). get_or xs k 0) is ∙ get_or-replicate len k 0 0 below
+use Rattle.tile_source.proofs.Sums.{pixel_inside, pixel_across, pixel_outside, beyond, across, lines_reach, piece_bounded, zero_at}
+use Rattle.tile_source.proofs.parts.average_row.Goals as goal
+use Rattle.tile_source.proofs.parts.average_row.Goals.{then-columns-eq0-via-then-columns-eq0, then-columns-eq0-via-else-columns-eq0+then-lines-eq0}
 
 pub returns-then-columns-eq0 : goal.returns-then-columns-eq0
 returns-then-columns-eq0 g c = λ k h.
@@ -23,7 +19,7 @@ returns-then-columns-eq0 g c = λ k h.
         | then-columns-eq0-via-then-columns-eq0 w ↦ beyond c.args.image.now.width c.args.x n k (length c.args.row.now) c.covered-columns.result columns (omega arith) h c.requires.some
         | then-columns-eq0-via-else-columns-eq0+then-lines-eq0 w ↦ absurd (omega arith)
       ]) in
-    zero c.fill.new.self (length c.args.row.now) k (c.fill.ensures.after (λ y same. same)) h ∙ sym nothing
+    zero_at c.fill.new.self (length c.args.row.now) k (c.fill.ensures.after (λ y same. same)) h ∙ sym nothing
 
 pub write_means-requires-clause-bounded : goal.write_means-requires-clause-bounded
 write_means-requires-clause-bounded g c = λ k h.
@@ -57,7 +53,7 @@ returns-then-whole-columns g c = λ k h.
         | inl past ↦ (
           let ne : k ≢ whole = omega arith in
           rw get_or-set_other
-          (c.write_means.ensures.rest k (omega (arith, length-take {A = ℕ})) ∙ (zero c.fill.new.self (length c.args.row.now) k (c.fill.ensures.after (λ y same. same)) h ∙ sym (pixel_outside c.args.image.now c.args.z (c.args.x + k) c.args.y n c.requires.scale (λ inside. beyond c.args.image.now.width c.args.x n k (length c.args.row.now) c.covered-columns.result columns (omega (arith, short, mul-le-mul_right n past)) h c.requires.some)))))
+          (c.write_means.ensures.rest k (omega (arith, length-take {A = ℕ})) ∙ (zero_at c.fill.new.self (length c.args.row.now) k (c.fill.ensures.after (λ y same. same)) h ∙ sym (pixel_outside c.args.image.now c.args.z (c.args.x + k) c.args.y n c.requires.scale (λ inside. beyond c.args.image.now.width c.args.x n k (length c.args.row.now) c.covered-columns.result columns (omega (arith, short, mul-le-mul_right n past)) h c.requires.some)))))
         | inr at ↦ (
           let same : k ≡ whole = omega arith in
           let in_row : whole < length c.write_means.new.row = omega arith in
@@ -76,5 +72,5 @@ returns-else-whole-columns g c = λ k h.
     let even : c.covered-columns.result ≤ whole * n = c.if-whole-columns.false in
     elim (cases_lt k whole) [
       | inl low ↦ c.write_means.ensures.means k (omega (arith, length-take {A = ℕ})) ∙ pixel_inside c.args.image.now c.args.z c.args.x c.args.y n k c.covered-lines.result (get_or c.add_lines.new.sums k 0) c.requires.scale (omega arith) (lines_reach c.args.image.now.height c.args.y n c.covered-lines.result lines) (c.add_lines.ensures.value k (omega (arith, length-take {A = ℕ})))
-      | inr high ↦ c.write_means.ensures.rest k (omega (arith, length-take {A = ℕ})) ∙ (zero c.fill.new.self (length c.args.row.now) k (c.fill.ensures.after (λ y same. same)) h ∙ sym (pixel_outside c.args.image.now c.args.z (c.args.x + k) c.args.y n c.requires.scale (λ inside. beyond c.args.image.now.width c.args.x n k (length c.args.row.now) c.covered-columns.result columns (omega (arith, even, mul-le-mul_right n high)) h c.requires.some)))
+      | inr high ↦ c.write_means.ensures.rest k (omega (arith, length-take {A = ℕ})) ∙ (zero_at c.fill.new.self (length c.args.row.now) k (c.fill.ensures.after (λ y same. same)) h ∙ sym (pixel_outside c.args.image.now c.args.z (c.args.x + k) c.args.y n c.requires.scale (λ inside. beyond c.args.image.now.width c.args.x n k (length c.args.row.now) c.covered-columns.result columns (omega (arith, even, mul-le-mul_right n high)) h c.requires.some)))
     ]

@@ -1,6 +1,6 @@
 use Rattle.std.proofs.Common.{rules}
 use Rattle.tile_source.proofs.Powers.{shifted, four_to, square_of_side, four_to_low}
-use Rattle.tile_source.proofs.squares.rounded.Goals as goal
+use Rattle.tile_source.proofs.mean.rounded.Goals as goal
 
 pub overflow_add-result : goal.overflow_add-result
 overflow_add-result c =

@@ -1,10 +1,10 @@
-//! The fast way to a tile. Only the samples that the tile covers are read, line by line and in straight passes, and
-//! what lies outside of the image is filled with zeros.
+//! Rows of a tile at a zoom where a pixel takes long parts of a line: one sum a pixel, to which each line adds a part.
 
-ghost use Rattle.std.specs.Prelude.{◌≡◌, ℕ, ◌+◌, ◌*◌, ◌-◌, ◌/◌, ◌^◌, ◌<◌, ◌≤◌, length, sum, take, drop, slice_index, min, map};
-ghost use Rattle.tile_source.specs.Image.{sample, row_sum, square_sum, sum_below, mean, pixel, pixel_row, tile, greatest_sample};
+ghost use Rattle.std.specs.Prelude.{◌≡◌, ℕ, ◌+◌, ◌*◌, ◌^◌, ◌<◌, ◌≤◌, length, sum, take, drop, slice_index};
+ghost use Rattle.tile_source.specs.Image.{row_sum, sum_below, mean, pixel, greatest_sample};
 
 use crate::image::{Image, Sample};
+use crate::mean::{covered, rounded};
 
 // The sum of some samples.
 fn total(part: &[Sample]) -> u32
@@ -30,13 +30,6 @@ fn add_line<const N: usize>(sums: &mut [u32], line: &[Sample])
     for (column, all) in sums.iter_mut().enumerate() {
         *all += total(&line[column * N..(column + 1) * N]);
     }
-}
-
-// How many of so many places, from one on, lie below an end.
-fn covered(from: usize, count: usize, end: usize) -> usize
-    ensures { result ≡ min (end - from) count }
-{
-    end.saturating_sub(from).min(count)
 }
 
 // Sums the squares of one row of pixels, which lie within the columns of the image, over the lines within it.
@@ -78,16 +71,6 @@ fn piece_sum(image: &Image, x: usize, y: usize, columns: usize, lines: usize) ->
     all
 }
 
-// The mean of the samples of a square whose sum is given, a half rounded up.
-#[tactic(auto, using(crate::proofs::Powers::square_of_side, crate::proofs::Powers::four_to))]
-fn rounded(sum: u32, z: u32) -> u8
-    requires zoom { z ≤ 6 }
-    requires bounded { sum ≤ greatest_sample * 4 ^ z }
-    ensures { result ≡ mean z sum }
-{
-    ((sum + (1u32 << (2 * z)) / 2) >> (2 * z)) as u8
-}
-
 // Writes the mean of each square at the front of a row.
 fn write_means(sums: &[u32], z: u32, row: &mut [u8])
     requires zoom { z ≤ 6 }
@@ -101,8 +84,8 @@ fn write_means(sums: &[u32], z: u32, row: &mut [u8])
     }
 }
 
-// One row of a tile at a zoom above 0.
-fn average_row<const N: usize>(image: &Image, z: u32, x: usize, y: usize, sums: &mut [u32], row: &mut [u8])
+// One row of a tile, by one sum a pixel.
+pub(crate) fn average_row<const N: usize>(image: &Image, z: u32, x: usize, y: usize, row: &mut [u8])
     requires zoom { z ≤ 6 }
     requires scale { N ≡ 2 ^ z }
     requires few { N ≤ 64 }
@@ -110,7 +93,6 @@ fn average_row<const N: usize>(image: &Image, z: u32, x: usize, y: usize, sums: 
     requires x_fits { x < 2 ^ 31 }
     requires y_fits { y < 2 ^ 31 }
     requires narrow { length row.old ≤ 256 }
-    requires room { length sums.old ≡ 256 }
     ensures { (k : ℕ) → k < length row.old → slice_index row.new k ≡ pixel image.now z (x + k) y }
 {
     let columns = covered(x * N, row.len() * N, image.width() as usize);
@@ -120,79 +102,12 @@ fn average_row<const N: usize>(image: &Image, z: u32, x: usize, y: usize, sums: 
         return;
     }
     let whole = columns / N;
+    let mut sums = [0u32; 256];
     let sums = &mut sums[..whole];
     add_lines::<N>(image, x * N, y * N, lines, sums);
     write_means(sums, z, row);
     if whole * N < columns {
         let sum = piece_sum(image, (x + whole) * N, y * N, columns - whole * N, lines);
         row[whole] = rounded(sum, z);
-    }
-}
-
-// One row of a tile at zoom 0, where a pixel is a sample.
-fn copy_row(image: &Image, x: usize, y: usize, row: &mut [u8])
-    requires x_fits { x < 2 ^ 31 }
-    requires narrow { length row.old ≤ 256 }
-    ensures { (k : ℕ) → k < length row.old → slice_index row.new k ≡ sample image.now (x + k) y }
-{
-    let columns = if y < image.height() as usize {
-        covered(x, row.len(), image.width() as usize)
-    } else {
-        0
-    };
-    row[columns..].fill(0);
-    if columns > 0 {
-        row[..columns].copy_from_slice(image.line(x, y, columns));
-    }
-}
-
-fn average_tile<const N: usize>(image: &Image, z: u32, x: usize, y: usize, side: usize, out: &mut [u8])
-    requires zoom { z ≤ 6 }
-    requires scale { N ≡ 2 ^ z }
-    requires few { N ≤ 64 }
-    requires some { 0 < N }
-    requires x_fits { x ≤ 65535 }
-    requires y_fits { y ≤ 65535 }
-    requires side_fits { side ≤ 256 }
-    requires sized { length out.old ≡ side * side }
-    ensures { out.new ≡ tile image.now z x y side }
-{
-    let mut sums = [0u32; 256];
-    for v in 0..side {
-        let row = &mut out[v * side..(v + 1) * side];
-        average_row::<N>(image, z, x * side, y * side + v, &mut sums, row);
-    }
-}
-
-fn copy_tile(image: &Image, x: usize, y: usize, side: usize, out: &mut [u8])
-    requires x_fits { x ≤ 65535 }
-    requires y_fits { y ≤ 65535 }
-    requires side_fits { side ≤ 256 }
-    requires sized { length out.old ≡ side * side }
-    ensures { out.new ≡ tile image.now 0 x y side }
-{
-    for v in 0..side {
-        copy_row(image, x * side, y * side + v, &mut out[v * side..(v + 1) * side]);
-    }
-}
-
-/// Fills `out` with the tile at column `x` and row `y` of the tiles of zoom `z`.
-#[inline(never)]
-pub(crate) fn fill_tile(image: &Image, z: u32, x: usize, y: usize, side: usize, out: &mut [u8])
-    requires zoom { z ≤ 6 }
-    requires x_fits { x ≤ 65535 }
-    requires y_fits { y ≤ 65535 }
-    requires side_fits { side ≤ 256 }
-    requires sized { length out.old ≡ side * side }
-    ensures { out.new ≡ tile image.now z x y side }
-{
-    match z {
-        0 => copy_tile(image, x, y, side, out),
-        1 => average_tile::<2>(image, z, x, y, side, out),
-        2 => average_tile::<4>(image, z, x, y, side, out),
-        3 => average_tile::<8>(image, z, x, y, side, out),
-        4 => average_tile::<16>(image, z, x, y, side, out),
-        5 => average_tile::<32>(image, z, x, y, side, out),
-        _ => average_tile::<64>(image, z, x, y, side, out),
     }
 }

@@ -1,0 +1,97 @@
+//! The fast way to a tile. Only the samples that the tile covers are read, line by line and in straight passes, and
+//! what lies outside of the image is filled with zeros.
+
+ghost use Rattle.std.specs.Prelude.{◌≡◌, ℕ, ◌+◌, ◌*◌, ◌^◌, ◌<◌, ◌≤◌, length, slice_index};
+ghost use Rattle.tile_source.specs.Image.{sample, pixel, tile};
+
+use crate::columns::strip_row;
+use crate::image::Image;
+use crate::mean::covered;
+use crate::parts::average_row;
+
+// One row of a tile at zoom 0, where a pixel is a sample.
+fn copy_row(image: &Image, x: usize, y: usize, row: &mut [u8])
+    requires x_fits { x < 2 ^ 31 }
+    requires narrow { length row.old ≤ 256 }
+    ensures { (k : ℕ) → k < length row.old → slice_index row.new k ≡ sample image.now (x + k) y }
+{
+    let columns = if y < image.height() as usize {
+        covered(x, row.len(), image.width() as usize)
+    } else {
+        0
+    };
+    row[columns..].fill(0);
+    if columns > 0 {
+        row[..columns].copy_from_slice(image.line(x, y, columns));
+    }
+}
+
+// One row of a tile at a zoom above 0, by the faster of the two ways.
+fn mean_row<const N: usize>(image: &Image, z: u32, x: usize, y: usize, row: &mut [u8])
+    requires zoom { z ≤ 6 }
+    requires scale { N ≡ 2 ^ z }
+    requires few { N ≤ 64 }
+    requires some { 0 < N }
+    requires x_fits { x < 2 ^ 31 }
+    requires y_fits { y < 2 ^ 31 }
+    requires narrow { length row.old ≤ 256 }
+    ensures { (k : ℕ) → k < length row.old → slice_index row.new k ≡ pixel image.now z (x + k) y }
+{
+    if N <= 8 {
+        strip_row::<N>(image, z, x, y, row);
+    } else {
+        average_row::<N>(image, z, x, y, row);
+    }
+}
+
+// A tile at a zoom above 0.
+fn average_tile<const N: usize>(image: &Image, z: u32, x: usize, y: usize, side: usize, out: &mut [u8])
+    requires zoom { z ≤ 6 }
+    requires scale { N ≡ 2 ^ z }
+    requires few { N ≤ 64 }
+    requires some { 0 < N }
+    requires x_fits { x ≤ 65535 }
+    requires y_fits { y ≤ 65535 }
+    requires side_fits { side ≤ 256 }
+    requires sized { length out.old ≡ side * side }
+    ensures { out.new ≡ tile image.now z x y side }
+{
+    for v in 0..side {
+        let row = &mut out[v * side..(v + 1) * side];
+        mean_row::<N>(image, z, x * side, y * side + v, row);
+    }
+}
+
+// A tile at zoom 0.
+fn copy_tile(image: &Image, x: usize, y: usize, side: usize, out: &mut [u8])
+    requires x_fits { x ≤ 65535 }
+    requires y_fits { y ≤ 65535 }
+    requires side_fits { side ≤ 256 }
+    requires sized { length out.old ≡ side * side }
+    ensures { out.new ≡ tile image.now 0 x y side }
+{
+    for v in 0..side {
+        copy_row(image, x * side, y * side + v, &mut out[v * side..(v + 1) * side]);
+    }
+}
+
+/// Fills `out` with the tile at column `x` and row `y` of the tiles of zoom `z`.
+#[inline(never)]
+pub(crate) fn fill_tile(image: &Image, z: u32, x: usize, y: usize, side: usize, out: &mut [u8])
+    requires zoom { z ≤ 6 }
+    requires x_fits { x ≤ 65535 }
+    requires y_fits { y ≤ 65535 }
+    requires side_fits { side ≤ 256 }
+    requires sized { length out.old ≡ side * side }
+    ensures { out.new ≡ tile image.now z x y side }
+{
+    match z {
+        0 => copy_tile(image, x, y, side, out),
+        1 => average_tile::<2>(image, z, x, y, side, out),
+        2 => average_tile::<4>(image, z, x, y, side, out),
+        3 => average_tile::<8>(image, z, x, y, side, out),
+        4 => average_tile::<16>(image, z, x, y, side, out),
+        5 => average_tile::<32>(image, z, x, y, side, out),
+        _ => average_tile::<64>(image, z, x, y, side, out),
+    }
+}
