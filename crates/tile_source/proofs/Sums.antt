@@ -46,19 +46,6 @@ sum_of_part xs i n h =
     let long : n ≤ length (drop i xs) = simp length-drop (omega arith) in
     sum-take (drop i xs) n long ∙ sum_below_same (λ k. get_or (drop i xs) k 0) (λ k. get_or xs (i + k) 0) n (λ k below. get_or-drop i xs k 0)
 
--- the part of a line that one pixel takes
-pub part_of_line : (image : ImageValue) (line : List ℕ) (x y count k n : ℕ) → ((i : ℕ) → i < count * n → get_or line i 0 ≡ sample image (x + i) y) → length line ≡ count * n → k < count → sum (take n (drop (k * n) line)) ≡ row_sum image (x + k * n) y n
-part_of_line image line x y count k n is long below =
-    let fits : k * n + n ≤ count * n = row_fits k n count n below (omega arith) in
-    sum_of_part line (k * n) n (omega arith)
-    ∙ sum_below_same (λ i. get_or line (k * n + i) 0) (λ i. sample image (x + k * n + i) y) n
-    (λ i h. is (k * n + i) (omega arith) ∙ ap (λ m. sample image m y) (omega arith))
-
--- a whole line
-pub whole_line : (image : ImageValue) (line : List ℕ) (x y n : ℕ) → ((i : ℕ) → i < n → get_or line i 0 ≡ sample image (x + i) y) → length line ≡ n → sum line ≡ row_sum image x y n
-whole_line image line x y n is long =
-    ap sum (sym (take_all n line (omega arith))) ∙ (sum-take line n (omega arith) ∙ sum_below_same (λ k. get_or line k 0) (λ i. sample image (x + i) y) n is)
-
 -- the sum of what is 0 everywhere
 pub sum_below_zero : (f : ℕ → ℕ) (n : ℕ) → ((k : ℕ) → k < n → f k ≡ 0) → sum_below f n ≡ 0
 sum_below_zero f zero none = refl
@@ -105,11 +92,6 @@ pixel_inside image z x y n k lines all scale flat bottom is =
     pixel_by_sum image z (x + k) y n all scale
     (is ∙ (ap (λ m. sum_below (λ j. row_sum image m (y * n + j) n) lines) place ∙ sym (square_covered image ((x + k) * n) (y * n) n n lines (omega arith) flat (λ h. absurd (omega arith)) bottom)))
 
--- a pixel whose square lies across the right edge of the image
-pub pixel_across : (image : ImageValue) (z a y n columns lines all : ℕ) → n ≡ 2 ^ z → columns ≤ n → lines ≤ n → image.width ≤ a * n + columns → (lines < n → image.height ≤ y * n + lines) → all ≡ sum_below (λ j. row_sum image (a * n) (y * n + j) columns) lines → mean z all ≡ pixel image z a y
-pixel_across image z a y n columns lines all scale narrow flat right bottom is =
-    pixel_by_sum image z a y n all scale (is ∙ sym (square_covered image (a * n) (y * n) n columns lines narrow flat (λ h. right) bottom))
-
 -- a pixel whose square lies outside of the image
 pub pixel_outside : (image : ImageValue) (z a b n : ℕ) → n ≡ 2 ^ z → (b * n < image.height → image.width ≤ a * n) → pixel image z a b ≡ 0
 pixel_outside image z a b n scale out =
@@ -123,18 +105,6 @@ beyond width x n k len columns is past below some =
     let more : (k + 1) * n ≤ len * n = mul-le-mul_right n (omega arith) in
     omega arith
 
--- where the last square that is covered lies across the right edge
-pub across : (width x n len columns : ℕ) → columns ≡ min (width - x * n) (len * n) → 0 < n → (columns / n) * n < columns → width ≤ (x + columns / n) * n + (columns - (columns / n) * n)
-across width x n len columns is some cut =
-    elim (cases_lt columns (len * n)) [
-      | inl short ↦ omega arith
-      | inr long ↦ (
-        let whole : columns ≡ len * n = omega arith in
-        let most : columns / n ≡ len = ap (λ m. m / n) whole ∙ mul-div_cancel len some in
-        let all : (columns / n) * n ≡ len * n = ap (λ m. m * n) most in
-        absurd (omega arith))
-    ]
-
 -- at zoom 0 a pixel is a sample
 pub pixel_zero : (image : ImageValue) (x y : ℕ) → sample image x y ≡ pixel image 0 x y
 pixel_zero image x y =
@@ -146,13 +116,6 @@ pixel_zero image x y =
 -- how far the lines that are covered reach
 pub lines_reach : (height y n lines : ℕ) → lines ≡ min (height - y * n) n → lines < n → height ≤ y * n + lines
 lines_reach height y n lines is short = omega arith
-
--- a bound on the sum of a square that is not whole
-pub piece_bounded : (all n columns lines : ℕ) → all ≤ 255 * columns * lines → columns ≤ n → lines ≤ n → all ≤ 255 * n * n
-piece_bounded all n columns lines h narrow flat =
-    let wide : columns * lines ≤ n * lines = mul-le-mul_right lines narrow in
-    let deep : lines * n ≤ n * n = mul-le-mul_right n flat in
-    omega arith
 
 -- the sum of two functions
 sum_below_both : (f g : ℕ → ℕ) (n : ℕ) → sum_below (λ i. f i + g i) n ≡ sum_below f n + sum_below g n

@@ -5,8 +5,6 @@ mod columns;
 mod fault;
 mod image;
 mod maker;
-mod mean;
-mod parts;
 mod pgm;
 mod tile;
 mod tiles;

@@ -2,12 +2,10 @@
 //! what lies outside of the image is filled with zeros.
 
 ghost use Rattle.std.specs.Prelude.{◌≡◌, ℕ, ◌+◌, ◌*◌, ◌^◌, ◌<◌, ◌≤◌, length, slice_index};
-ghost use Rattle.tile_source.specs.Image.{sample, pixel, tile};
+ghost use Rattle.tile_source.specs.Image.{sample, tile};
 
-use crate::columns::strip_row;
+use crate::columns::{STRIP, average_row, covered};
 use crate::image::Image;
-use crate::mean::covered;
-use crate::parts::average_row;
 
 // One row of a tile at zoom 0, where a pixel is a sample.
 fn copy_row(image: &Image, x: usize, y: usize, row: &mut [u8])
@@ -26,24 +24,6 @@ fn copy_row(image: &Image, x: usize, y: usize, row: &mut [u8])
     }
 }
 
-// One row of a tile at a zoom above 0, by the faster of the two ways.
-fn mean_row<const N: usize>(image: &Image, z: u32, x: usize, y: usize, row: &mut [u8])
-    requires zoom { z ≤ 6 }
-    requires scale { N ≡ 2 ^ z }
-    requires few { N ≤ 64 }
-    requires some { 0 < N }
-    requires x_fits { x < 2 ^ 31 }
-    requires y_fits { y < 2 ^ 31 }
-    requires narrow { length row.old ≤ 256 }
-    ensures { (k : ℕ) → k < length row.old → slice_index row.new k ≡ pixel image.now z (x + k) y }
-{
-    if N <= 8 {
-        strip_row::<N>(image, z, x, y, row);
-    } else {
-        average_row::<N>(image, z, x, y, row);
-    }
-}
-
 // A tile at a zoom above 0.
 fn average_tile<const N: usize>(image: &Image, z: u32, x: usize, y: usize, side: usize, out: &mut [u8])
     requires zoom { z ≤ 6 }
@@ -56,9 +36,10 @@ fn average_tile<const N: usize>(image: &Image, z: u32, x: usize, y: usize, side:
     requires sized { length out.old ≡ side * side }
     ensures { out.new ≡ tile image.now z x y side }
 {
+    let mut sums = [0u16; STRIP];
     for v in 0..side {
         let row = &mut out[v * side..(v + 1) * side];
-        mean_row::<N>(image, z, x * side, y * side + v, row);
+        average_row::<N>(image, z, x * side, y * side + v, &mut sums, row);
     }
 }
 

@@ -6,4 +6,4 @@ pub rounded-requires-clause-bounded : goal.rounded-requires-clause-bounded
 rounded-requires-clause-bounded g c =
     let n = g.row.N in
     let low : c.total.result ≤ 255 * n * n = c.total.ensures.bound in
-    bounded c.from.result n c.args.z c.requires.scale (omega arith)
+    bounded c.total.result n c.args.z c.requires.scale (omega arith)

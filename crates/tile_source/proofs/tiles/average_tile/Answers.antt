@@ -7,5 +7,5 @@ pub loop-v-preserved : goal.loop-v-preserved
 loop-v-preserved g c =
     let wide = length-row c.loop-v.out c.loop-v.v c.args.side (omega arith) c.loop-v-test.true in
     row_filled (λ v u. pixel c.args.image.now c.args.z (c.args.x * c.args.side + u) (c.args.y * c.args.side + v))
-    c.loop-v.out c.mean_row.new.row c.loop-v.v c.args.side (omega arith) c.loop-v-test.true (omega arith)
-    (λ k h. c.mean_row.ensures k (omega arith)) c.loop-v.invariant
+    c.loop-v.out c.average_row.new.row c.loop-v.v c.args.side (omega arith) c.loop-v-test.true (omega arith)
+    (λ k h. c.average_row.ensures k (omega arith)) c.loop-v.invariant

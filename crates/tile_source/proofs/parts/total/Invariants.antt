@@ -1,5 +1,0 @@
-use Rattle.std.proofs.Common.{◌≡◌, ◌*◌, ◌≤◌, sum, take}
-use Rattle.tile_source.proofs.parts.total.Given as goal
-
-abbrev pub invariant-loop-value : goal.invariant-loop-value
-invariant-loop-value l = (l.all ≡ sum (take l.value-index l.part)) × (l.all ≤ 255 * l.value-index)
