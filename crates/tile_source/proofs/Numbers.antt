@@ -1,4 +1,4 @@
-use Rattle.std.proofs.Common.{◌≡◌, ℕ, ◌+◌, ◌*◌, ◌-◌, ◌<◌, List, [], ◌∷◌, Bool, true, cond, length, drop, get_or, min, refl, arith, ◌∙◌, sym, ap}
+use Rattle.std.proofs.Common.{◌≡◌, ℕ, ◌+◌, ◌*◌, ◌-◌, ◌<◌, List, [], ◌∷◌, true, cond, length, drop, get_or, min, arith, ◌∙◌, sym, ap}
 use Rattle.std.specs.Char.{is_ascii_digit, digit_value}
 use Rattle.std.specs.Int.{IsInRange}
 use Rattle.std.specs.List.{take_while}
@@ -20,7 +20,7 @@ pub digit_more : (text : List ℕ) (n value next : ℕ) → n < length text → 
 digit_more text n value next below digit range is =
     let c = get_or text n 0 in
     let front : take_while is_ascii_digit (drop n text) ≡ c ∷ take_while is_ascii_digit (drop (n + 1) text)
-      = at_drop_more (take_while is_ascii_digit) text n 0 below ∙ (take_while-cons is_ascii_digit c (drop (n + 1) text) ∙ ap (λ b. cond b (c ∷ take_while is_ascii_digit (drop (n + 1) text)) []) digit) in
+    = at_drop_more (take_while is_ascii_digit) text n 0 below ∙ (take_while-cons is_ascii_digit c (drop (n + 1) text) ∙ ap (λ b. cond b (c ∷ take_while is_ascii_digit (drop (n + 1) text)) []) digit) in
     let worth : c - 48 ≡ digit_value c = omega (arith, digit_value_digit c range) in
     ap (λ m. min (digits_value_after 10 m (take_while is_ascii_digit (drop (n + 1) text))) 65536) (is ∙ ap (λ d. min (value * 10 + d) 65536) worth)
     ∙ (capped 65536 (value * 10 + digit_value c) (take_while is_ascii_digit (drop (n + 1) text))

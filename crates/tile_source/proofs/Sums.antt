@@ -1,10 +1,9 @@
-use Rattle.std.proofs.Common.{◌≡◌, ℕ, zero, suc, ◌+◌, ◌*◌, ◌-◌, ◌<◌, ◌≤◌, List, ◌/◌, ◌^◌, length, take, drop, get_or, replicate, sum, refl, min, inl, inr, rules, arith, ◌∙◌, sym, ap}
+use Rattle.std.proofs.Common.{◌≡◌, ℕ, zero, suc, ◌+◌, ◌*◌, ◌-◌, ◌<◌, ◌≤◌, List, ◌^◌, length, take, drop, get_or, replicate, sum, refl, min, arith, ◌∙◌, sym, ap}
 use Rattle.std.proofs.lemmas.List.Sums.{sum_by_more}
-use Rattle.std.proofs.lemmas.List.{get_or-replicate, take_all, get_or-drop, length-drop, drop-drop, drop-take, take-take}
+use Rattle.std.proofs.lemmas.List.{get_or-replicate, get_or-drop, length-drop}
 use Rattle.std.proofs.lemmas.Bool.Decides.{nat_tests}
-use Rattle.std.proofs.lemmas.Bool.{cases_lt}
 use Rattle.std.proofs.lemmas.Nat.{row_fits, pow_pos}
-use Rattle.std.proofs.Math.Nat.{div-eq_of_lt, mul-le-mul_right, mul-div_cancel}
+use Rattle.std.proofs.Math.Nat.{div-eq_of_lt, mul-le-mul_right}
 use Rattle.tile_source.proofs.Powers.{four_to, square_of_side}
 use Rattle.tile_source.specs.Image.{ImageValue, sum_below, row_sum, sample, square_sum, pixel, mean}
 
@@ -96,7 +95,7 @@ pixel_inside image z x y n k lines all scale flat bottom is =
 pub pixel_outside : (image : ImageValue) (z a b n : ℕ) → n ≡ 2 ^ z → (b * n < image.height → image.width ≤ a * n) → pixel image z a b ≡ 0
 pixel_outside image z a b n scale out =
     let none : square_sum image (a * n) (b * n) n ≡ 0 = sum_below_zero (λ j. row_sum image (a * n) (b * n + j) n) n
-      (λ j low. sum_below_zero (λ i. sample image (a * n + i) (b * n + j)) n (λ i h. sample_outside image (a * n + i) (b * n + j) (λ inside. let wide : image.width ≤ a * n = out (omega arith) in omega arith))) in
+    (λ j low. sum_below_zero (λ i. sample image (a * n + i) (b * n + j)) n (λ i h. sample_outside image (a * n + i) (b * n + j) (λ inside. let wide : image.width ≤ a * n = out (omega arith) in omega arith))) in
     sym (pixel_by_sum image z a b n 0 scale (sym none)) ∙ mean_zero z
 
 -- where the squares from a column on lie beyond the columns that a row of the tile covers
@@ -138,7 +137,7 @@ pixel_by_columns image sums z x y n count lines k scale flat bottom long each be
     pixel_inside image z x y n k lines (sum (take n (drop (k * n) sums))) scale flat bottom
     (sum_of_part sums (k * n) n (omega arith)
     ∙ (sum_below_same (λ i. get_or sums (k * n + i) 0) (λ i. sum_below (λ j. sample image (x * n + k * n + i) (y * n + j)) lines) n
-      (λ i h. each (k * n + i) (omega arith) ∙ ap (λ m. sum_below (λ j. sample image m (y * n + j)) lines) (omega arith))
+    (λ i h. each (k * n + i) (omega arith) ∙ ap (λ m. sum_below (λ j. sample image m (y * n + j)) lines) (omega arith))
     ∙ sum_below_turned (λ i j. sample image (x * n + k * n + i) (y * n + j)) n lines))
 
 -- a row of zeros

@@ -89,7 +89,14 @@ fn write_means<const N: usize>(sums: &[u16], z: u32, row: &mut [u8])
 }
 
 // A strip of a row, of at most `STRIP` columns.
-fn average_strip<const N: usize>(image: &Image, z: u32, x: usize, y: usize, sums: &mut [u16], strip: &mut [u8])
+fn average_strip<const N: usize>(
+    image: &Image,
+    z: u32,
+    x: usize,
+    y: usize,
+    sums: &mut [u16],
+    strip: &mut [u8],
+)
     requires zoom { z ≤ 6 }
     requires scale { N ≡ 2 ^ z }
     requires few { N ≤ 64 }
@@ -114,7 +121,14 @@ fn average_strip<const N: usize>(image: &Image, z: u32, x: usize, y: usize, sums
 }
 
 // One row of a tile, strip by strip.
-pub(crate) fn average_row<const N: usize>(image: &Image, z: u32, x: usize, y: usize, sums: &mut [u16], row: &mut [u8])
+pub(crate) fn average_row<const N: usize>(
+    image: &Image,
+    z: u32,
+    x: usize,
+    y: usize,
+    sums: &mut [u16],
+    row: &mut [u8],
+)
     requires zoom { z ≤ 6 }
     requires scale { N ≡ 2 ^ z }
     requires few { N ≤ 64 }

@@ -14,3 +14,6 @@ pub use image::Image;
 pub use maker::ImageMaker;
 pub use pgm::read_pgm;
 pub use tile::{Tile, TileMaker, pgm_head};
+
+#[cfg(test)]
+mod tests;

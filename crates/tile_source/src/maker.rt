@@ -1,8 +1,8 @@
 ghost use Rattle.std.specs.Prelude.{◌≡◌, ◌⊎◌};
 
 use crate::image::Image;
-use crate::tiles::fill_tile;
 use crate::tile::{Tile, TileMaker};
+use crate::tiles::fill_tile;
 use std::marker::Model;
 
 /// Makes the tiles of one image, each `side` by `side` pixels of one byte. Contracts see the image, the side, and how
@@ -37,6 +37,13 @@ impl<'a> ImageMaker<'a> {
             made: 0,
         }
     }
+
+    /// How many tiles it has made.
+    pub fn made(&self) -> u64
+        ensures { result ≡ self.now.made }
+    {
+        self.made
+    }
 }
 
 impl<'a> TileMaker for ImageMaker<'a> {
@@ -58,7 +65,14 @@ impl<'a> TileMaker for ImageMaker<'a> {
 
     fn make(&mut self, tile: Tile, out: &mut [u8]) {
         let side = self.side as usize;
-        fill_tile(self.image, tile.z, tile.x as usize, tile.y as usize, side, out);
+        fill_tile(
+            self.image,
+            tile.z,
+            tile.x as usize,
+            tile.y as usize,
+            side,
+            out,
+        );
         self.made = self.made.saturating_add(1);
     }
 }

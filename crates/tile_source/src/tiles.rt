@@ -25,7 +25,14 @@ fn copy_row(image: &Image, x: usize, y: usize, row: &mut [u8])
 }
 
 // A tile at a zoom above 0.
-fn average_tile<const N: usize>(image: &Image, z: u32, x: usize, y: usize, side: usize, out: &mut [u8])
+fn average_tile<const N: usize>(
+    image: &Image,
+    z: u32,
+    x: usize,
+    y: usize,
+    side: usize,
+    out: &mut [u8],
+)
     requires zoom { z ≤ 6 }
     requires scale { N ≡ 2 ^ z }
     requires few { N ≤ 64 }
@@ -52,7 +59,12 @@ fn copy_tile(image: &Image, x: usize, y: usize, side: usize, out: &mut [u8])
     ensures { out.new ≡ tile image.now 0 x y side }
 {
     for v in 0..side {
-        copy_row(image, x * side, y * side + v, &mut out[v * side..(v + 1) * side]);
+        copy_row(
+            image,
+            x * side,
+            y * side + v,
+            &mut out[v * side..(v + 1) * side],
+        );
     }
 }
 
