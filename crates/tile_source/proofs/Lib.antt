@@ -3,3 +3,4 @@ pub mod Powers
 pub mod Readings
 pub mod Sums
 pub mod TileRows
+pub mod Written

@@ -1,5 +1,5 @@
 -- How a file of the form P5 is read. A place counts bytes from 0, and a fault is the first one from the left.
-use Rattle.std.specs.Prelude.{◌≡◌, ℕ, ◌+◌, ◌*◌, List, [], ◌∷◌, Bool, true, false, not, ◌||◌, ◌==◌, nat_lt, if◌then◌else◌, length, take, drop, map, min, slice_index, Result, Ok, Err, nat_eq}
+use Rattle.std.specs.Prelude.{◌≡◌, ℕ, ◌+◌, ◌*◌, List, [], ◌∷◌, Bool, true, false, not, ◌||◌, ◌==◌, nat_lt, if◌then◌else◌, length, take, drop, map, min, slice_index, Result, Ok, Err, nat_eq, ◌++◌, ◌<◌, ◌≤◌, decimal}
 use Rattle.std.specs.Char.{is_ascii_digit}
 use Rattle.std.specs.List.{take_while, starts_with}
 use Rattle.std.specs.Str.Parse.{digits_value}
@@ -92,3 +92,20 @@ pgm_of bytes = do
 abbrev pub IsReading : Result ImageValue PgmFault → Result ImageValue PgmFault → Type 0
 IsReading (Err NoMemory) held = Unit {0}
 IsReading answer held = answer ≡ held
+
+-- the head of an image as a file: `P5`, LF, width, space, height, LF, the greatest value, LF
+abbrev pub head : ℕ → ℕ → ℕ → List ℕ
+head width height maxval =
+    (80 ∷ 53 ∷ 10 ∷ []) ++ decimal width ++ (32 ∷ []) ++ decimal height ++ (10 ∷ []) ++ decimal maxval ++ (10 ∷ [])
+
+-- an image as a file: its head and its samples
+abbrev pub written : ImageValue → List ℕ
+written image = head image.width image.height image.maxval ++ image.samples
+
+-- what a file can hold: sides and a greatest value in their ranges, and so many samples, none above that value
+pub record IsImage (image : ImageValue) : Type 0 where
+  pub wide : (0 < image.width) × (image.width ≤ greatest_side)
+  pub high : (0 < image.height) × (image.height ≤ greatest_side)
+  pub bright : (0 < image.maxval) × (image.maxval ≤ greatest_sample)
+  pub sized : length image.samples ≡ image.width * image.height
+  pub dark : (k : ℕ) → slice_index image.samples k ≤ image.maxval

@@ -12,7 +12,7 @@ mod tiles;
 pub use fault::PgmFault;
 pub use image::Image;
 pub use maker::ImageMaker;
-pub use pgm::read_pgm;
+pub use pgm::{law_written_is_read, read_pgm};
 pub use tile::{Tile, TileMaker, pgm_head};
 
 #[cfg(test)]

@@ -1,9 +1,9 @@
-ghost use Rattle.std.specs.Prelude.{◌≡◌, ◌+◌, ◌≤◌, length, drop, min, map, IfOk, false};
+ghost use Rattle.std.specs.Prelude.{◌≡◌, ◌+◌, ◌≤◌, length, drop, min, map, IfOk, false, ℕ, List, ◌++◌, Ok};
 ghost use Rattle.std.specs.Str.Parse.{digits_value};
 ghost use Rattle.std.specs.Char.{is_ascii_digit};
 ghost use Rattle.std.specs.List.{take_while, prefix_len};
-ghost use Rattle.tile_source.specs.Image.{greatest_side};
-ghost use Rattle.tile_source.specs.Pgm.{ends_line, is_white, white_len, white_at, number_at, behind_digits, side_at, maxval_at, one_white_at, magic_of, header_of, pgm_of, IsReading};
+ghost use Rattle.tile_source.specs.Image.{ImageValue, greatest_side};
+ghost use Rattle.tile_source.specs.Pgm.{ends_line, is_white, white_len, white_at, number_at, behind_digits, side_at, maxval_at, one_white_at, magic_of, header_of, pgm_of, IsReading, written, IsImage};
 
 use crate::fault::PgmFault;
 use crate::image::{Image, Sample};
@@ -225,3 +225,8 @@ pub fn read_pgm(alloc: Global, bytes: &[u8]) -> Result<Image, PgmFault>
     let samples = samples_of(alloc, &left[..want], head.maxval)?;
     Ok(Image::from_parts(head.width, head.height, head.maxval, samples))
 }
+
+/// A law of the form: what is written as an image is read as that image, whatever follows it.
+pub fn law_written_is_read()
+    ensures { (image : ImageValue) (rest : List ℕ) → IsImage image → pgm_of (written image ++ rest) ≡ Ok image }
+{}

@@ -68,6 +68,8 @@ fn faults(rt: HostRuntime) -> Result<(), Fail> {
         let fault = PgmFault::Short { have, want };
         assert_eq!(rt; read_pgm(rt.alloc(), text).err(), Some(fault), "{text:?}");
     }
+    let text = PgmFault::Short { have: 1, want: 2 }.to_string(rt.alloc())?;
+    assert_eq!(rt; text.as_str(), "1 of 2 bytes of samples");
     Ok(())
 }
 

@@ -48,11 +48,11 @@ pub trait TileMaker {
     ghost has_length: { (m : Self) (t : Tile) → length (tile_of m t) ≡ tile_length m };
 }
 
-ghost use Rattle.tile_source.specs.Tile.{head};
+ghost use Rattle.tile_source.specs.Pgm.{head};
 
 /// The head of a tile as a file of the form P5: `P5`, LF, `side`, space, `side`, LF, `maxval`, LF.
 pub fn pgm_head(alloc: Global, side: u32, maxval: u32) -> Result<Vec<u8>, NoMemory>
-    ensures { IfOk result (λ bytes. bytes.items ≡ head side maxval) }
+    ensures { IfOk result (λ bytes. bytes.items ≡ head side side maxval) }
 {
     Ok(format!(in alloc; "P5\n{side} {side}\n{maxval}\n")?.into_bytes())
 }
