@@ -9,7 +9,7 @@ use crate::image::{Image, Sample};
 /// How many columns of samples a strip has at most.
 pub(crate) const STRIP: usize = 256;
 
-// How many of so many places, from one on, lie below an end.
+// How many of `count` places, from `from` on, lie below `end`.
 pub(crate) fn covered(from: usize, count: usize, end: usize) -> usize
     ensures { result ≡ min (end - from) count }
 {

@@ -226,7 +226,7 @@ pub fn read_pgm(alloc: Global, bytes: &[u8]) -> Result<Image, PgmFault>
     Ok(Image::from_parts(head.width, head.height, head.maxval, samples))
 }
 
-/// A law of the form: what is written as an image is read as that image, whatever follows it.
+/// A law: what is written as an image is read as that image, whatever bytes follow it.
 pub fn law_written_is_read()
     ensures { (image : ImageValue) (rest : List ℕ) → IsImage image → pgm_of (written image ++ rest) ≡ Ok image }
 {}

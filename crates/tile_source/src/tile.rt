@@ -1,4 +1,5 @@
 ghost use Rattle.std.specs.Prelude.{◌≡◌, IfOk};
+ghost use Rattle.tile_source.specs.Pgm.{head};
 
 use machine::NoMemory;
 use std::alloc::Global;
@@ -47,8 +48,6 @@ pub trait TileMaker {
     // Each tile has that length.
     ghost has_length: { (m : Self) (t : Tile) → length (tile_of m t) ≡ tile_length m };
 }
-
-ghost use Rattle.tile_source.specs.Pgm.{head};
 
 /// The head of a tile as a file of the form P5: `P5`, LF, `side`, space, `side`, LF, `maxval`, LF.
 pub fn pgm_head(alloc: Global, side: u32, maxval: u32) -> Result<Vec<u8>, NoMemory>
