@@ -1,1 +1,5 @@
+pub mod Orders
+pub mod Report
+pub mod TileRun
 pub mod Top
+pub mod Words

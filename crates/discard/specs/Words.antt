@@ -1,28 +1,40 @@
 -- The words of the command line.
-use Rattle.std.specs.Prelude.{ℕ, ◌+◌, ◌==◌, Bool, true, false, not, ◌&&◌, nat_lt, if◌then◌else◌, List, [], ◌∷◌, ◌++◌, length, drop, codes, nat_eq, Option, Some, None, option_map, option_and_then}
-use Rattle.std.specs.Str.{bytes_eq}
+use Rattle.std.specs.Prelude.{ℕ, ◌==◌, ◌||◌, ◌<◌, Bool, true, false, if◌then◌else◌, List, [], ◌∷◌, ◌++◌, length, drop, codes, nat_eq, bytes_eq, string_bytes, String, map, Option, Some, None, option_and_then}
 use Rattle.std.specs.List.{starts_with}
 use Rattle.line_text.specs.Number.{number_in}
+use Rattle.tile_source.specs.declared.tile.Tile.{Tile}
+use Rattle.discard.specs.declared.words.Next.{Next}
+use Rattle.discard.specs.declared.words.Next.TheVariants as next
 
 -- the second step, if the first gave a value
 infixl 10 ◌>>=◌
 abbrev pub ◌>>=◌ : {A B : Type 0} → Option A → (A → Option B) → Option B
 o >>= f = option_and_then f o
 
--- the words behind a command: the positional words, and the values of `--side`, each in order
-pub record Given : Type 0 where
+-- the bytes of each word
+abbrev pub texts : {A : Type 0} → List (String A) → List (List ℕ)
+texts words = map string_bytes words
+
+-- what words give: the positional words in their order, and the value of `--side`
+pub record GivenWords : Type 0 where
   pub positional : List (List ℕ)
-  pub sides : List (List ℕ)
+  pub side : Option (List ℕ)
 
 -- nothing is given
-abbrev pub nothing : Given
-nothing = record { positional = []; sides = [] }
+abbrev pub nothing : GivenWords
+nothing = record { positional = []; side = None }
 
-abbrev pub with_positional : List ℕ → Given → Given
-with_positional word given = record given { positional = word ∷ given.positional }
+-- one more positional word
+abbrev pub with_positional : List ℕ → GivenWords → GivenWords
+with_positional word before = record { positional = before.positional ++ word ∷ []; side = before.side }
 
-abbrev pub with_side : List ℕ → Given → Given
-with_side value given = record given { sides = value ∷ given.sides }
+-- the value of `--side`, which is given once at most
+abbrev pub with_side : List ℕ → GivenWords → Option GivenWords
+with_side value before = once before.positional before.side
+  where
+    once : List (List ℕ) → Option (List ℕ) → Option GivenWords
+    once positional None = Some (record { positional = positional; side = Some value })
+    once positional (Some other) = None
 
 -- the word ends the options
 abbrev pub is_end : List ℕ → Bool
@@ -32,7 +44,7 @@ is_end word = bytes_eq word (codes "--")
 abbrev pub is_side : List ℕ → Bool
 is_side word = bytes_eq word (codes "--side")
 
--- the word names the option and has its value behind the `=`
+-- the word names the option, and has its value behind the `=`
 abbrev pub has_side : List ℕ → Bool
 has_side word = starts_with nat_eq word (codes "--side=")
 
@@ -40,72 +52,84 @@ has_side word = starts_with nat_eq word (codes "--side=")
 abbrev pub is_dashed : List ℕ → Bool
 is_dashed [] = false
 is_dashed (byte ∷ []) = false
-is_dashed (byte ∷ next ∷ rest) = byte == 45
+is_dashed (byte ∷ second ∷ rest) = byte == 45
 
--- What words are, read from the left: behind `--` each word is positional, `--side` takes the next word for its value,
--- `--side=` has it, any other word with a dash in front is refused, and every other word is positional. None where a
--- word is refused, or a value is missing.
-abbrev pub given : List (List ℕ) → Option Given
-given [] = Some nothing
-given (word ∷ []) =
-    if is_end word then Some nothing
-    else if is_side word then None
-    else if has_side word then Some (with_side (drop 7 word) nothing)
+-- What words give, read from the left, behind those before them. The next word is read as any word, as the value of
+-- `--side`, or as positional, since a `--` stands before it. None where a word is refused, or where a value is missing.
+abbrev pub given_after : GivenWords → Next → List (List ℕ) → Option GivenWords
+given_after before next.Any [] = Some before
+given_after before next.Positional [] = Some before
+given_after before next.Value [] = None
+given_after before next.Value (word ∷ rest) = do
+  more ← with_side word before
+  given_after more next.Any rest
+given_after before next.Positional (word ∷ rest) = given_after (with_positional word before) next.Positional rest
+given_after before next.Any (word ∷ rest) =
+    if is_end word then given_after before next.Positional rest
+    else if is_side word then given_after before next.Value rest
+    else if has_side word then (with_side (drop 7 word) before >>= λ more. given_after more next.Any rest)
     else if is_dashed word then None
-    else Some (with_positional word nothing)
-given (word ∷ next ∷ rest) =
-    if is_end word then Some (record { positional = next ∷ rest; sides = [] })
-    else if is_side word then option_map (with_side next) (given rest)
-    else if has_side word then option_map (with_side (drop 7 word)) (given (next ∷ rest))
-    else if is_dashed word then None
-    else option_map (with_positional word) (given (next ∷ rest))
+    else given_after (with_positional word before) next.Any rest
 
--- what the words ask for
-pub data Order : Type 0 where
-  Replay : Order
-  Tile : (file : List ℕ) (z x y side : ℕ) → Order
+-- what the words behind a command give
+abbrev pub given : List (List ℕ) → Option GivenWords
+given words = given_after nothing next.Any words
 
--- a side is 64, 128 or 256
+-- what the words of the command line ask for: a replay, or a tile of the image in a file, with a side
+pub data OrderValue : Type 0 where
+  Replay : OrderValue
+  WriteTile : (file : List ℕ) (tile : Tile) (side : ℕ) → OrderValue
+
+-- a side, which is 64, 128 or 256
 abbrev pub side_in : List ℕ → Option ℕ
 side_in word = do
   side ← number_in word 64 256
-  if side == 64 then Some side else if side == 128 then Some side else if side == 256 then Some side else None
+  if side == 64 || side == 128 || side == 256 then Some side else None
 
--- the side that options give: at most one does, and without one it is 256
-abbrev pub side_of : List (List ℕ) → Option ℕ
-side_of [] = Some 256
-side_of (value ∷ []) = side_in value
-side_of (value ∷ other ∷ rest) = None
+-- the side that is asked for: 256 where none is given
+abbrev pub side_of : Option (List ℕ) → Option ℕ
+side_of None = Some 256
+side_of (Some value) = side_in value
 
--- the tile that words behind `tile` ask for: a file with a name, z, x and y
-abbrev pub tile_order : Given → Option Order
-tile_order given = tile_words given.positional
+-- a word that isn't empty
+abbrev pub named : List ℕ → Option (List ℕ)
+named [] = None
+named (byte ∷ bytes) = Some (byte ∷ bytes)
+
+-- the positional words of `tile` are a file with a name, a zoom, a column and a row
+abbrev pub tile_of : GivenWords → Option OrderValue
+tile_of words = four words.positional
   where
-    named : List ℕ → Option (List ℕ)
-    named [] = None
-    named (byte ∷ bytes) = Some (byte ∷ bytes)
-    tile_words : List (List ℕ) → Option Order
-    tile_words (file ∷ z ∷ x ∷ y ∷ []) = do
+    four : List (List ℕ) → Option OrderValue
+    four (file ∷ z ∷ x ∷ y ∷ []) = do
       name ← named file
-      level ← number_in z 0 6
+      zoom ← number_in z 0 6
       column ← number_in x 0 65535
       row ← number_in y 0 65535
-      side ← side_of given.sides
-      Some (Tile name level column row side)
-    tile_words _ = None
+      side ← side_of words.side
+      Some (WriteTile name (record { z = zoom; x = column; y = row }) side)
+    four _ = None
 
--- nothing stands behind `replay`
-abbrev pub replay_order : Given → Option Order
-replay_order given = nothing_more given.positional given.sides
+-- `replay` has no positional word and no option
+abbrev pub replay_of : GivenWords → Option OrderValue
+replay_of words = none words.positional words.side
   where
-    nothing_more : List (List ℕ) → List (List ℕ) → Option Order
-    nothing_more [] [] = Some Replay
-    nothing_more _ _ = None
+    none : List (List ℕ) → Option (List ℕ) → Option OrderValue
+    none [] None = Some Replay
+    none _ _ = None
 
--- what the words of the command line ask for, or none where they are not lawful
-abbrev pub order_of : List (List ℕ) → Option Order
+-- what the words behind `replay` ask for
+abbrev pub replay_order : List (List ℕ) → Option OrderValue
+replay_order words = given words >>= replay_of
+
+-- what the words behind `tile` ask for
+abbrev pub tile_order : List (List ℕ) → Option OrderValue
+tile_order words = given words >>= tile_of
+
+-- what the words of the command line ask for, or None where they are not lawful
+abbrev pub order_of : List (List ℕ) → Option OrderValue
 order_of [] = None
 order_of (command ∷ words) =
-    if bytes_eq command (codes "replay") then given words >>= replay_order
-    else if bytes_eq command (codes "tile") then given words >>= tile_order
+    if bytes_eq command (codes "replay") then replay_order words
+    else if bytes_eq command (codes "tile") then tile_order words
     else None

@@ -4,7 +4,10 @@
 
 #[cfg(test)]
 mod tests;
+mod report;
+mod tile_run;
 mod top;
+mod words;
 
 use crate::top::discard;
 use discard_io::{CountClock, NeverFiles, OpenGate, StdSink, StdSource};
