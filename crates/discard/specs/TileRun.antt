@@ -12,14 +12,22 @@ use Rattle.tile_source.specs.Image.{ImageValue}
 use Rattle.tile_source.specs.Pgm.{pgm_of}
 use Rattle.tile_source.specs.Tile.{reply}
 
--- the place and the cause of a fault of a file with so many bytes
+-- the most bytes that a file has
+abbrev pub most_bytes : ℕ
+most_bytes = 134283264
+
+-- a place in a file, and the cause for which it is refused there
+abbrev pub refusal : ℕ → ℕ → Refusal
+refusal place cause = record { place = place; cause = cause }
+
+-- the place and the cause for a fault of a file with so many bytes
 abbrev pub refusal_of : ℕ → PgmFault → Refusal
-refusal_of len fault.BadMagic = record { place = 0; cause = 11 }
-refusal_of len (fault.BadNumber at) = record { place = at; cause = 12 }
-refusal_of len (fault.TooLarge at) = record { place = at; cause = 13 }
-refusal_of len (fault.Short have want) = record { place = len; cause = 14 }
-refusal_of len (fault.WideSamples at) = record { place = at; cause = 15 }
-refusal_of len fault.NoMemory = record { place = 0; cause = 0 }
+refusal_of len fault.BadMagic = refusal 0 11
+refusal_of len (fault.BadNumber at) = refusal at 12
+refusal_of len (fault.TooLarge at) = refusal at 13
+refusal_of len (fault.Short have want) = refusal len 14
+refusal_of len (fault.WideSamples at) = refusal at 15
+refusal_of len fault.NoMemory = refusal 0 0
 
 abbrev pub or_refused : ℕ → Result ImageValue PgmFault → Result ImageValue Refusal
 or_refused len (Ok image) = Ok image
@@ -28,7 +36,19 @@ or_refused len (Err why) = Err (refusal_of len why)
 -- what the bytes of a file are: an image, or the first place where they are refused and the cause
 abbrev pub image_of : List ℕ → Result ImageValue Refusal
 image_of bytes =
-    if nat_lt 134283264 (length bytes) then Err (record { place = 134283264; cause = 16 }) else or_refused (length bytes) (pgm_of bytes)
+    if nat_lt most_bytes (length bytes) then Err (refusal most_bytes 16) else or_refused (length bytes) (pgm_of bytes)
+
+-- what reading an image answers is what the bytes are, unless memory is wanting
+abbrev pub Reads : Result ImageValue Status → List ℕ → Type 0
+Reads (Ok image) bytes = image_of bytes ≡ Ok image
+Reads (Err (BadInput place cause)) bytes = image_of bytes ≡ Err (refusal place cause)
+Reads (Err NoMemory) bytes = Unit {0}
+Reads (Err _) bytes = ⊥
+
+-- the status for a fault of a file with so many bytes
+abbrev pub StatusFor : ℕ → PgmFault → Status → Type 0
+StatusFor len fault.NoMemory status = status ≡ NoMemory
+StatusFor len why status = status ≡ BadInput (refusal_of len why).place (refusal_of len why).cause
 
 -- what the file and the sink of a run tell: the bytes of the file, the bytes written, and how often each has failed
 pub record Drives : Type 0 where
@@ -52,7 +72,7 @@ abbrev pub TileEnds : ℕ → Tile → Status → Drives → Drives → Type 0
 TileEnds side tile Done before after = (text : List ℕ) × IsTileOf before.file side tile text × (after.written ≡ appended before.written text)
 -- the file is refused, first at this place and for this cause, and nothing was written
 TileEnds side tile (BadInput place cause) before after =
-    IfSome before.file (λ bytes. image_of bytes ≡ Err (record { place = place; cause = cause })) × (after.written ≡ before.written)
+    IfSome before.file (λ bytes. image_of bytes ≡ Err (refusal place cause)) × (after.written ≡ before.written)
 -- the files failed, and nothing was written
 TileEnds side tile FileFault before after = HasRisen before.file_faults after.file_faults × (after.written ≡ before.written)
 -- the file is an image, and the sink failed when a front of its tile was written
@@ -63,8 +83,3 @@ TileEnds side tile NoMemory before after = after.written ≡ before.written
 -- a tile ends in no other way
 TileEnds side tile Usage before after = ⊥
 TileEnds side tile ReadFault before after = ⊥
-
--- the status for a fault of a file of so many bytes
-abbrev pub Refuses : ℕ → PgmFault → Status → Type 0
-Refuses len fault.NoMemory status = status ≡ NoMemory
-Refuses len why status = status ≡ BadInput (refusal_of len why).place (refusal_of len why).cause

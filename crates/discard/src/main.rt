@@ -1,39 +1,32 @@
 #![tactic(auto)]
 //! `discard`: soft memory for caches. `discard replay` runs a script of events from the standard input, and writes a
-//! line of reply to each on the standard output.
+//! line of reply to each on the standard output. `discard tile` writes one tile of the image in a file.
 
+mod report;
 #[cfg(test)]
 mod tests;
-mod report;
 mod tile_run;
 mod top;
 mod words;
 
+use crate::report::tell;
 use crate::top::discard;
-use discard_io::{CountClock, NeverFiles, OpenGate, StdSink, StdSource};
+use discard_io::{CountClock, DirFiles, OpenGate, Sink, Status, StdSink, StdSource};
 use std::env;
 use std::process::ExitCode;
 
-/// The status of a run whose words are not lawful.
-const USAGE: u8 = 2;
-
-/// The status of a run that memory was wanting for.
-const NO_MEMORY: u8 = 1;
-
 fn main(rt: HostRuntime) -> ExitCode {
     let alloc = rt.alloc();
+    let mut report = StdSink::new(rt.stderr());
     let Ok(words) = env::args(&rt) else {
-        return ExitCode::from(USAGE);
+        return failed(&mut report, Status::Usage);
     };
     let Ok(words) = words.skip(1).collect::<Vec<String>>(alloc) else {
-        return ExitCode::from(NO_MEMORY);
-    };
-    let Ok(mut files) = NeverFiles::new(alloc, b"") else {
-        return ExitCode::from(NO_MEMORY);
+        return failed(&mut report, Status::NoMemory);
     };
     let mut input = StdSource::new(rt.stdin());
     let mut out = StdSink::new(rt.stdout());
-    let mut report = StdSink::new(rt.stderr());
+    let mut files = DirFiles::new(&rt);
     let clock = CountClock::new(1);
     let gate = OpenGate::new();
     let ended = discard(
@@ -48,4 +41,10 @@ fn main(rt: HostRuntime) -> ExitCode {
         &gate,
     );
     ExitCode::from(ended.status.code())
+}
+
+/// Tells a status on the report, and is its exit code.
+fn failed<E: Sink>(report: &mut E, status: Status) -> ExitCode {
+    tell(report, status);
+    ExitCode::from(status.code())
 }

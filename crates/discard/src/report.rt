@@ -1,14 +1,14 @@
-ghost use Rattle.std.specs.Prelude.{◌≡◌, ◌≤◌};
+ghost use Rattle.std.specs.Prelude.{◌≡◌, ◌≤◌, length};
 ghost use Rattle.discard.specs.Report.{status_line, Tells};
 
 use arrayvec::ArrayString;
 use discard_io::{Sink, Status, write_all};
 use itoa::Buffer;
 
-/// The most bytes that a line for a status has is below this.
+/// Room for the longest line of a status.
 const ROOM: usize = 64;
 
-/// Writes the line for a status on the report, and nothing for Done. It takes no memory, and where the report fails the
+/// Writes the line of a status on the report, and nothing for Done. It takes no memory, and where the report fails the
 /// status stays.
 pub(crate) fn tell<E: Sink>(report: &mut E, status: Status)
     ensures told { Tells (E.written report.old) (E.faults report.old) (status_line status) (E.written report.new) (E.faults report.new) }
@@ -21,27 +21,34 @@ pub(crate) fn tell<E: Sink>(report: &mut E, status: Status)
 fn line_of(status: Status) -> ArrayString<ROOM>
     ensures { result.bytes ≡ status_line status }
 {
-    let mut line = ArrayString::new();
     match status {
-        Status::Done => {}
-        Status::NoMemory => line.push_str("discard: no memory\n"),
-        Status::Usage => line.push_str("discard: usage\n"),
-        Status::BadInput { place, cause } => push_refusal(&mut line, place, cause),
-        Status::ReadFault => line.push_str("discard: read fault\n"),
-        Status::WriteFault => line.push_str("discard: write fault\n"),
-        Status::FileFault => line.push_str("discard: file fault\n"),
+        Status::Done => line(""),
+        Status::NoMemory => line("discard: no memory\n"),
+        Status::Usage => line("discard: usage\n"),
+        Status::BadInput { place, cause } => refusal_line(place, cause),
+        Status::ReadFault => line("discard: read fault\n"),
+        Status::WriteFault => line("discard: write fault\n"),
+        Status::FileFault => line("discard: file fault\n"),
     }
+}
+
+fn line(text: &str) -> ArrayString<ROOM>
+    requires { length text.now ≤ ROOM }
+    ensures { result.bytes ≡ text.now }
+{
+    let mut line = ArrayString::new();
+    line.push_str(text);
     line
 }
 
-fn push_refusal(line: &mut ArrayString<ROOM>, place: u64, cause: u32)
-    requires { line.old.bytes ≡ [] }
-    ensures { line.new.bytes ≡ status_line (Status.BadInput place cause) }
+fn refusal_line(place: u64, cause: u32) -> ArrayString<ROOM>
+    ensures { result.bytes ≡ status_line (Status.BadInput place cause) }
 {
     let mut digits = Buffer::new();
-    line.push_str("discard: bad input ");
+    let mut line = line("discard: bad input ");
     line.push_str(digits.format(place));
     line.push_str(" ");
     line.push_str(digits.format(cause));
     line.push_str("\n");
+    line
 }

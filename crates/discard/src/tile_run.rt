@@ -1,7 +1,7 @@
-ghost use Rattle.std.specs.Prelude.{◌≡◌, ◌⊎◌, ◌≤◌, ℕ, List, IfOk, length};
+ghost use Rattle.std.specs.Prelude.{◌≡◌, ◌≤◌, ℕ, List, [], ◌∷◌, IfOk, length, vec_len};
 ghost use Rattle.tile_source.specs.Tile.{IsTile, reply};
-ghost use Rattle.line_text.specs.Script.{Refusal};
-ghost use Rattle.discard.specs.TileRun.{drives, TileEnds, Refuses};
+ghost use Rattle.discard.specs.Orders.{IsSide};
+ghost use Rattle.discard.specs.TileRun.{drives, TileEnds, Reads, StatusFor, most_bytes};
 
 use discard_io::{FileFault, Files, Sink, Status, write_all};
 use machine::NoMemory;
@@ -24,7 +24,7 @@ pub(crate) fn write_tile<O: Sink, F: Files>(
     files: &mut F,
 ) -> Status
     requires tile { IsTile tile }
-    requires side { (side ≡ 64) ⊎ (side ≡ 128) ⊎ (side ≡ 256) }
+    requires side { IsSide side }
     ensures ends { TileEnds side tile result
         (drives (F.bytes files.old file.now) (F.faults files.old) (O.written out.old) (O.faults out.old))
         (drives (F.bytes files.new file.now) (F.faults files.new) (O.written out.new) (O.faults out.new)) }
@@ -43,10 +43,9 @@ pub(crate) fn write_tile<O: Sink, F: Files>(
         }
         Err(FileFault::NoMemory) => return Status::NoMemory,
     };
-    let len = bytes.len() as u64;
     let image = match image_of(alloc, bytes) {
         Ok(image) => image,
-        Err(fault) => return status_of(len, fault),
+        Err(status) => return status,
     };
     let text = match text_of(alloc, &image, tile, side) {
         Ok(text) => text,
@@ -58,16 +57,21 @@ pub(crate) fn write_tile<O: Sink, F: Files>(
     }
 }
 
-/// The image in the bytes of a file, which are let go.
-fn image_of(alloc: Global, bytes: Vec<u8>) -> Result<Image, PgmFault>
-    ensures { IsReading result (pgm_of bytes.items) }
+/// The image in the bytes of a file, which are let go, or the status of a run that ends here.
+fn image_of(alloc: Global, bytes: Vec<u8>) -> Result<Image, Status>
+    requires { vec_len bytes ≤ most_bytes }
+    ensures { Reads result bytes.items }
 {
-    read_pgm(alloc, &bytes)
+    let len = bytes.len() as u64;
+    match read_pgm(alloc, &bytes) {
+        Ok(image) => Ok(image),
+        Err(fault) => Err(status_of(len, fault)),
+    }
 }
 
-/// The status for a fault of a file of so many bytes.
+/// The status for a fault of a file with so many bytes.
 fn status_of(len: u64, fault: PgmFault) -> Status
-    ensures { Refuses len fault result }
+    ensures { StatusFor len fault result }
 {
     let (place, cause) = match fault {
         PgmFault::BadMagic => (0, 11),
@@ -80,10 +84,10 @@ fn status_of(len: u64, fault: PgmFault) -> Status
     Status::BadInput { place, cause }
 }
 
-/// A tile of an image with its head.
+/// A tile of an image, with its head.
 fn text_of(alloc: Global, image: &Image, tile: Tile, side: u32) -> Result<Vec<u8>, NoMemory>
     requires tile { IsTile tile }
-    requires side { (side ≡ 64) ⊎ (side ≡ 128) ⊎ (side ≡ 256) }
+    requires side { IsSide side }
     ensures { IfOk result (λ text. text.items ≡ reply image.now side (tile ∷ [])) }
 {
     let mut text = pgm_head(alloc, side, image.maxval())?;
