@@ -1,6 +1,5 @@
 -- How the code has what the words ask for.
-use Rattle.std.specs.Prelude.{◌≡◌, ℕ, ◌<◌, ◌⊎◌, List, [], ◌∷◌, length, Option, Some, None, option_map}
-use Rattle.tile_source.specs.declared.tile.Tile.{Tile}
+use Rattle.std.specs.Prelude.{◌≡◌, ℕ, ◌<◌, ◌⊎◌, List, [], ◌∷◌, length, option_map}
 use Rattle.tile_source.specs.Tile.{IsTile}
 use Rattle.discard.specs.declared.words.FewWords.{FewWords}
 use Rattle.discard.specs.declared.words.FewWords.TheVariants.{Zero, One, Two, Three, Four}

@@ -1,5 +1,5 @@
 -- The words of the command line.
-use Rattle.std.specs.Prelude.{ℕ, ◌==◌, ◌||◌, ◌<◌, Bool, true, false, if◌then◌else◌, List, [], ◌∷◌, ◌++◌, length, drop, codes, nat_eq, bytes_eq, string_bytes, String, map, Option, Some, None, option_and_then}
+use Rattle.std.specs.Prelude.{ℕ, ◌==◌, ◌||◌, Bool, false, if◌then◌else◌, List, [], ◌∷◌, ◌++◌, drop, codes, nat_eq, bytes_eq, string_bytes, String, map, Option, Some, None, option_and_then}
 use Rattle.std.specs.List.{starts_with}
 use Rattle.line_text.specs.Number.{number_in}
 use Rattle.tile_source.specs.declared.tile.Tile.{Tile}

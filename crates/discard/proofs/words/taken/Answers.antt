@@ -7,7 +7,7 @@ pub returns-in_err-positional_taken-in-Positional-clause-none :
     goal.returns-in_err-positional_taken-in-Positional-clause-none
 returns-in_err-positional_taken-in-Positional-clause-none c =
     rw c.in-Positional.is
-        (positional_overflows _ (given_value c.args.given) c.args.word.now c.in_err-positional_taken-in-Positional.ensures.none)
+    (positional_overflows _ (given_value c.args.given) c.args.word.now c.in_err-positional_taken-in-Positional.ensures.none)
 
 pub returns-in-Any-clause-none : goal.returns-in-Any-clause-none
 returns-in-Any-clause-none c = rw c.in-Any.is c.any_taken.ensures.none
