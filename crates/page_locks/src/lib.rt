@@ -2,7 +2,6 @@
 //! The locked pages of a segment.
 
 mod locks;
-mod range;
 #[cfg(test)]
 mod tests;
 

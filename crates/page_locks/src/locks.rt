@@ -2,8 +2,8 @@ ghost use Rattle.std.specs.Prelude.{◌≡◌, ℕ, ◌+◌, Bool, true, false, 
 ghost use Rattle.machine.specs.History.{is_within};
 ghost use Rattle.page_locks.specs.Locks.{is_page_locked, page_count, locked_count, AreFree, AreLocked, IsRange};
 
-use crate::range::{all_are, set_all};
 use machine::NoMemory;
+use machine::pages::{all_are, set_all};
 use std::alloc::Global;
 use std::marker::Model;
 
