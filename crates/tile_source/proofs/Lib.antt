@@ -1,0 +1,6 @@
+pub mod Numbers
+pub mod Powers
+pub mod Readings
+pub mod Sums
+pub mod TileRows
+pub mod Written

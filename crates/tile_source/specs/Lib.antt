@@ -1,0 +1,5 @@
+pub mod Image
+pub mod Length
+pub mod Maker
+pub mod Pgm
+pub mod Tile

@@ -1,0 +1,90 @@
+ghost use Rattle.std.specs.Prelude.{◌≡◌, ℕ, ◌+◌, ◌*◌, ◌<◌, ◌≤◌, length, slice_index};
+
+use std::marker::Model;
+
+/// What one sample is stored as.
+pub(crate) type Sample = u8;
+
+/// A grey image, at most 8192 by 8192. Contracts see its sides, its greatest value and its samples.
+#[derive(Debug, Drop)]
+pub struct Image {
+    width: u32,
+    height: u32,
+    maxval: u32,
+    samples: Vec<Sample>,
+}
+
+impl Model for Image {
+    ghost use Rattle.std.specs.Prelude.{◌≡◌, ◌*◌, ◌≤◌, length};
+    ghost use Rattle.tile_source.specs.Image.{ImageValue, greatest_side};
+
+    ghost Value = { ImageValue };
+
+    ghost view = { λ i. record { width = i.width; height = i.height; maxval = i.maxval; samples = i.samples.items } };
+
+    ghost invariant = { λ i. (i.width ≤ greatest_side) × (i.height ≤ greatest_side) × (i.width * i.height ≡ length i.samples.items) };
+}
+
+impl Image {
+    ghost use Rattle.tile_source.specs.Image.{sample, greatest_side, greatest_sample};
+
+    /// An image of these parts.
+    pub(crate) fn from_parts(width: u32, height: u32, maxval: u32, samples: Vec<Sample>) -> Image
+        requires narrow { width ≤ greatest_side }
+        requires low { height ≤ greatest_side }
+        requires sized { width * height ≡ length samples.items }
+        ensures { result ≡ record { width = width; height = height; maxval = maxval; samples = samples.items } }
+    {
+        Image {
+            width,
+            height,
+            maxval,
+            samples,
+        }
+    }
+
+    /// How many samples a row has.
+    pub fn width(&self) -> u32
+        ensures value { result ≡ self.now.width }
+        ensures bound { result ≤ greatest_side }
+    {
+        self.width
+    }
+
+    /// How many rows the image has.
+    pub fn height(&self) -> u32
+        ensures value { result ≡ self.now.height }
+        ensures bound { result ≤ greatest_side }
+    {
+        self.height
+    }
+
+    /// The greatest value of a sample, which stands for white.
+    pub fn maxval(&self) -> u32
+        ensures { result ≡ self.now.maxval }
+    {
+        self.maxval
+    }
+
+    /// The sample at a column and a row, and 0 outside of the image.
+    pub fn sample(&self, x: u32, y: u32) -> u32
+        ensures { result ≡ sample self.now x y }
+    {
+        if x < self.width && y < self.height {
+            u32::from(self.samples[y as usize * self.width as usize + x as usize])
+        } else {
+            0
+        }
+    }
+
+    /// So many samples of one row, from a column on.
+    pub(crate) fn line(&self, x: usize, y: usize, count: usize) -> &[Sample]
+        requires inside { x + count ≤ self.now.width }
+        requires low { y < self.now.height }
+        ensures value { (k : ℕ) → k < count → slice_index result.now k ≡ sample self.now (x + k) y }
+        ensures len { length result.now ≡ count }
+    {
+        let begin = y * self.width as usize + x;
+        &self.samples[begin..begin + count]
+    }
+}

@@ -1,0 +1,232 @@
+ghost use Rattle.std.specs.Prelude.{◌≡◌, ◌+◌, ◌≤◌, length, drop, min, map, IfOk, false, ℕ, List, ◌++◌, Ok};
+ghost use Rattle.std.specs.Str.Parse.{digits_value};
+ghost use Rattle.std.specs.Char.{is_ascii_digit};
+ghost use Rattle.std.specs.List.{take_while, prefix_len};
+ghost use Rattle.tile_source.specs.Image.{ImageValue, greatest_side};
+ghost use Rattle.tile_source.specs.Pgm.{ends_line, is_white, white_len, white_at, number_at, behind_digits, side_at, maxval_at, one_white_at, magic_of, header_of, pgm_of, IsReading, written, IsImage};
+
+use crate::fault::PgmFault;
+use crate::image::{Image, Sample};
+use std::alloc::{AllocError, Global};
+
+// What the header says, and the place of the first sample.
+#[derive(Clone, Copy)]
+struct Head {
+    width: u32,
+    height: u32,
+    maxval: u32,
+    raster: usize,
+}
+
+// Whether a byte is CR or LF.
+fn ends_line(byte: u8) -> bool
+    ensures { result ≡ ends_line byte }
+{
+    byte == b'\r' || byte == b'\n'
+}
+
+// Whether a byte is space, TAB, CR or LF.
+fn is_white(byte: u8) -> bool
+    ensures { result ≡ is_white byte }
+{
+    byte == b' ' || byte == b'\t' || ends_line(byte)
+}
+
+// How many bytes of white space and comments a text begins with.
+fn white_len(text: &[u8]) -> usize
+    ensures value { result ≡ white_len false text.now }
+    ensures bound { result ≤ length text.now }
+{
+    let mut in_comment = false;
+    for (n, byte) in text.iter().enumerate() {
+        if in_comment {
+            in_comment = !ends_line(*byte);
+        } else if *byte == b'#' {
+            in_comment = true;
+        } else if !is_white(*byte) {
+            return n;
+        }
+    }
+    text.len()
+}
+
+// The place behind the white space and the comments that must stand at a place.
+fn white_at(bytes: &[u8], at: usize) -> Result<usize, PgmFault>
+    requires { at ≤ length bytes.now }
+    ensures exact { result ≡ white_at bytes.now at }
+    ensures inside { IfOk result (λ end. end ≤ length bytes.now) }
+{
+    let n = white_len(&bytes[at..]);
+    if n == 0 {
+        return Err(PgmFault::BadNumber { at: at as u64 });
+    }
+    Ok(at + n)
+}
+
+// How many digits a text begins with.
+fn digits_len(text: &[u8]) -> usize
+    ensures { result ≡ prefix_len is_ascii_digit text.now }
+{
+    for (n, byte) in text.iter().enumerate() {
+        if !byte.is_ascii_digit() {
+            return n;
+        }
+    }
+    text.len()
+}
+
+// A number that is too great for each place of the header.
+const TOO_GREAT: u32 = 65536;
+
+// The value of the digits that a text begins with, or `TOO_GREAT` where it is more.
+fn number(text: &[u8]) -> u32
+    ensures { result ≡ min (digits_value 10 (take_while is_ascii_digit text.now)) 65536 }
+{
+    let mut value = 0u32;
+    for byte in text {
+        if !byte.is_ascii_digit() {
+            break;
+        }
+        value = (value * 10 + u32::from(*byte - b'0')).min(TOO_GREAT);
+    }
+    value
+}
+
+// The value of the digits at a place, or `TOO_GREAT` where it is more, and the place behind them.
+fn number_at(bytes: &[u8], at: usize) -> (u32, usize)
+    requires { at ≤ length bytes.now }
+    ensures value { result.0 ≡ min (number_at bytes.now at) 65536 }
+    ensures end { result.1 ≡ behind_digits bytes.now at }
+    ensures inside { result.1 ≤ length bytes.now }
+{
+    let text = &bytes[at..];
+    (number(text), at + digits_len(text))
+}
+
+// The width or the height at a place, and the place behind it.
+fn side_at(bytes: &[u8], at: usize) -> Result<(u32, usize), PgmFault>
+    requires { at ≤ length bytes.now }
+    ensures exact { result ≡ side_at bytes.now at }
+    ensures bound { IfOk result (λ found. found.0 ≤ greatest_side) }
+    ensures inside { IfOk result (λ found. found.1 ≤ length bytes.now) }
+{
+    let (value, end) = number_at(bytes, at);
+    if value == 0 {
+        Err(PgmFault::BadNumber { at: at as u64 })
+    } else if value > 8192 {
+        Err(PgmFault::TooLarge { at: at as u64 })
+    } else {
+        Ok((value, end))
+    }
+}
+
+// The greatest value at a place, and the place behind it.
+fn maxval_at(bytes: &[u8], at: usize) -> Result<(u32, usize), PgmFault>
+    requires { at ≤ length bytes.now }
+    ensures exact { result ≡ maxval_at bytes.now at }
+    ensures inside { IfOk result (λ found. found.1 ≤ length bytes.now) }
+{
+    let (value, end) = number_at(bytes, at);
+    if value == 0 || value > 65535 {
+        Err(PgmFault::BadNumber { at: at as u64 })
+    } else if value > 255 {
+        Err(PgmFault::WideSamples { at: at as u64 })
+    } else {
+        Ok((value, end))
+    }
+}
+
+// The place behind the one byte of white space that must stand at a place.
+fn one_white_at(bytes: &[u8], at: usize) -> Result<usize, PgmFault>
+    ensures exact { result ≡ one_white_at bytes.now at }
+    ensures inside { IfOk result (λ end. end ≤ length bytes.now) }
+{
+    if at < bytes.len() && is_white(bytes[at]) {
+        Ok(at + 1)
+    } else {
+        Err(PgmFault::BadNumber { at: at as u64 })
+    }
+}
+
+// The place behind the magic number.
+fn magic_of(bytes: &[u8]) -> Result<usize, PgmFault>
+    ensures exact { result ≡ magic_of bytes.now }
+    ensures inside { IfOk result (λ end. end ≤ length bytes.now) }
+{
+    if bytes.starts_with(b"P5") {
+        Ok(2)
+    } else {
+        Err(PgmFault::BadMagic)
+    }
+}
+
+// The header.
+fn header_of(bytes: &[u8]) -> Result<Head, PgmFault>
+    ensures exact { result ≡ header_of bytes.now }
+    ensures narrow { IfOk result (λ head. head.width ≤ greatest_side) }
+    ensures low { IfOk result (λ head. head.height ≤ greatest_side) }
+    ensures inside { IfOk result (λ head. head.raster ≤ length bytes.now) }
+{
+    let at = magic_of(bytes)?;
+    let at = white_at(bytes, at)?;
+    let (width, at) = side_at(bytes, at)?;
+    let at = white_at(bytes, at)?;
+    let (height, at) = side_at(bytes, at)?;
+    let at = white_at(bytes, at)?;
+    let (maxval, at) = maxval_at(bytes, at)?;
+    let raster = one_white_at(bytes, at)?;
+    Ok(Head {
+        width,
+        height,
+        maxval,
+        raster,
+    })
+}
+
+// Brings each sample down to the greatest value.
+fn clamp(samples: &mut [Sample], maxval: Sample)
+    ensures { samples.new ≡ map (λ s. min s maxval) samples.old }
+{
+    for value in samples.iter_mut() {
+        *value = (*value).min(maxval);
+    }
+}
+
+// The samples that a raster holds.
+fn samples_of(alloc: Global, raster: &[u8], maxval: u32) -> Result<Vec<Sample>, AllocError>
+    ensures { IfOk result (λ samples. samples.items ≡ map (λ s. min s maxval) raster.now) }
+{
+    let mut samples = Vec::from_slice(alloc, raster)?;
+    if maxval < 255 {
+        clamp(&mut samples, maxval as Sample);
+    }
+    Ok(samples)
+}
+
+/// Reads the first image of a file of the form P5.
+///
+/// The header is `P5`, the width and the height, each from 1 to 8192, and the greatest value, from 1 to 255, each behind
+/// white space. White space is space, TAB, CR and LF; a comment, which begins with `#` and goes on up to and with the
+/// next CR or LF, counts as white space, but not behind the greatest value, where exactly one byte of white space
+/// stands. Then the samples follow, one byte each. A sample above the greatest value is read as that value, and bytes
+/// behind the samples are not read. The answer is the image, or the first fault from the left.
+pub fn read_pgm(alloc: Global, bytes: &[u8]) -> Result<Image, PgmFault>
+    ensures { IsReading result (pgm_of bytes.now) }
+{
+    let head = header_of(bytes)?;
+    let left = &bytes[head.raster..];
+    let want = head.width as usize * head.height as usize;
+    if left.len() < want {
+        return Err(PgmFault::Short {
+            have: left.len() as u64,
+            want: want as u64,
+        });
+    }
+    let samples = samples_of(alloc, &left[..want], head.maxval)?;
+    Ok(Image::from_parts(head.width, head.height, head.maxval, samples))
+}
+
+/// A law: what is written as an image is read as that image, whatever bytes follow it.
+pub fn law_written_is_read()
+    ensures { (image : ImageValue) (rest : List ℕ) → IsImage image → pgm_of (written image ++ rest) ≡ Ok image }
+{}
