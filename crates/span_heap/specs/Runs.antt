@@ -1,0 +1,39 @@
+-- The free runs of a heap are a list, oldest first.
+use Rattle.std.specs.Prelude.{ℕ, ◌+◌, ◌-◌, not, nat_lt, List, [], ◌∷◌, ◌++◌, filter, if◌then◌else◌}
+use Rattle.span_heap.specs.declared.run.Run.{Run}
+use Rattle.span_heap.specs.Run.{lies_in, begins_at, ends_at, is_beside, is_run, pages_of}
+
+-- what a run has behind its first n pages, if anything
+abbrev pub rest_of : Run → ℕ → List Run
+rest_of run n =
+    if nat_lt n run.pages then record { segment = run.segment; first = run.first + n; pages = run.pages - n } ∷ [] else []
+
+-- after the first n pages of a run were taken: the run leaves, and what is left of it is appended
+abbrev pub carved : List Run → Run → ℕ → List Run
+carved runs run n = filter (λ other. not (is_run run other)) runs ++ rest_of run n
+
+-- the pages of the run that ends where the span begins
+abbrev pub pages_before : List Run → Run → ℕ
+pages_before runs span = pages_of (filter (ends_at span.segment span.first) runs)
+
+-- the pages of the run that begins where the span ends
+abbrev pub pages_behind : List Run → Run → ℕ
+pages_behind runs span = pages_of (filter (begins_at span.segment (span.first + span.pages)) runs)
+
+-- the span with the free pages directly before it and directly behind it
+abbrev pub joined : List Run → Run → Run
+joined runs span =
+    record {
+      segment = span.segment;
+      first = span.first - pages_before runs span;
+      pages = pages_before runs span + span.pages + pages_behind runs span
+    }
+
+-- after a span was freed: the runs beside it leave, and the joined run is appended
+abbrev pub freed : List Run → Run → List Run
+freed runs span =
+    filter (λ run. not (is_beside span run)) runs ++ joined runs span ∷ []
+
+-- after a segment was dropped: all its runs leave
+abbrev pub dropped : List Run → ℕ → List Run
+dropped runs segment = filter (λ run. not (lies_in segment run)) runs

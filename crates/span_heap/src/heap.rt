@@ -1,0 +1,183 @@
+ghost use Rattle.std.specs.Prelude.{◌≡◌, ◌+◌, ◌-◌, ◌^◌, ◌<◌, ◌≤◌, ◌↔◌, not, [], ◌∷◌, ◌++◌, All, Contains, IsPermutation, IsTrue, IsFalse, IfOk, IfSome, OnOk, OnErr, MatchOption, filter, vec_capacity};
+ghost use Rattle.span_heap.specs.Run.{lies_in, pages_of};
+ghost use Rattle.span_heap.specs.Runs.{carved, freed, dropped};
+ghost use Rattle.span_heap.specs.Pick.{pick};
+ghost use Rattle.span_heap.specs.Heap.{Contents, IsPartition, has_id, has_segment, size_of, pages_in};
+
+use crate::free_runs::{carve, join, pick};
+use crate::run::{Run, Runs};
+use crate::segment::Segment;
+use crate::span::Span;
+use crate::used_spans::take_out;
+use machine::NoMemory;
+use std::alloc::Global;
+use std::marker::Model;
+
+/// Segments, cut into used spans and free runs.
+///
+/// Each page of each segment lies in exactly one used span or free run, and no two free runs touch.
+/// Only `new`, `grow` and `runs` take memory.
+#[derive(Debug, Drop)]
+pub struct Heap {
+    segments: Vec<Segment>,
+    used: Vec<Run>,
+    free: Vec<Run>,
+    pages: u32,
+    free_pages: u32,
+}
+
+impl Model for Heap {
+    ghost use Rattle.std.specs.Prelude.{◌≤◌, vec_capacity};
+    ghost use Rattle.span_heap.specs.Heap.{Contents, IsKept};
+
+    ghost Value = { Contents };
+
+    ghost view = { λ h. record { segments = h.segments.items; used = h.used.items; free = h.free.items } };
+
+    ghost invariant = { λ h. IsKept (record { segments = h.segments.items; used = h.used.items; free = h.free.items }) h.pages h.free_pages
+        × (h.pages ≤ vec_capacity h.used) × (h.pages ≤ vec_capacity h.free) };
+}
+
+impl Heap {
+    /// A heap with no segment.
+    pub fn new(alloc: Global) -> Result<Heap, NoMemory>
+        ensures { IfOk result (λ heap. heap ≡ record { segments = []; used = []; free = [] }) }
+    {
+        Ok(Heap {
+            segments: Vec::new(alloc),
+            used: Vec::new(alloc),
+            free: Vec::new(alloc),
+            pages: 0,
+            free_pages: 0,
+        })
+    }
+
+    /// Adds a segment of 1 to 65,536 pages under a number that no segment of the heap has, and
+    /// answers it whole as one used span. All pages of the heap together stay below 2^32.
+    pub fn grow(&mut self, _alloc: Global, segment: u64, pages: u32) -> Result<Span, NoMemory>
+        requires fresh { IsFalse (has_segment self.old.segments segment) }
+        requires sized { (1 ≤ pages) × (pages ≤ 65536) }
+        requires small { size_of self.old.segments + pages < 2 ^ 32 }
+    {
+        let total = self.pages + pages;
+        self.segments.reserve(1)?;
+        self.used.reserve(total as usize - self.used.len())?;
+        self.free.reserve(total as usize - self.free.len())?;
+        let run = Run {
+            segment,
+            first: 0,
+            pages,
+        };
+        self.segments.push_reserved(Segment { id: segment, pages });
+        self.used.push_reserved(run);
+        self.pages = total;
+        Ok(Span { run })
+    }
+
+    /// Takes the front of the latest free run of the least length from `pages` to
+    /// `pages + slack`, where all lengths from 256 on count as one; what is left of the run is
+    /// appended to the free runs. `None` comes exactly where no run has such a length.
+    pub fn search(&mut self, pages: u32, slack: u32) -> Option<Span>
+        requires sized { 1 ≤ pages }
+        requires small { pages + slack < 2 ^ 32 }
+    {
+        let place = pick(self.free.as_slice(), pages, pages + slack)?;
+        let run = carve(&mut self.free, place, pages);
+        self.used.push_reserved(run);
+        self.free_pages -= pages;
+        Some(Span { run })
+    }
+
+    /// Cuts a used span in two behind its first `front` pages.
+    pub fn split(&mut self, span: Span, front: u32) -> (Span, Span)
+        requires used { Contains self.old.used span }
+        requires within { (1 ≤ front) × (front < span.pages) }
+    {
+        let whole = span.run;
+        let front = Run {
+            segment: whole.segment,
+            first: whole.first,
+            pages: front,
+        };
+        let back = Run {
+            segment: whole.segment,
+            first: whole.first + front.pages,
+            pages: whole.pages - front.pages,
+        };
+        take_out(&mut self.used, whole);
+        self.used.push_reserved(front);
+        self.used.push_reserved(back);
+        (Span { run: front }, Span { run: back })
+    }
+
+    /// Frees a used span: it is joined with the free runs directly before it and behind it, and
+    /// the joined run is the latest.
+    pub fn free(&mut self, span: Span)
+        requires { Contains self.old.used span }
+    {
+        let run = span.run;
+        take_out(&mut self.used, run);
+        join(&mut self.free, run);
+        self.free_pages += run.pages;
+    }
+
+    /// Drops a segment with its free runs and its used spans, and answers how many of its pages
+    /// were used.
+    pub fn drop_segment(&mut self, segment: u64) -> u32
+        requires { IsTrue (has_segment self.old.segments segment) }
+    {
+        let used = pages_of_segment(self.used.as_slice(), segment);
+        let free = pages_of_segment(self.free.as_slice(), segment);
+        self.segments.retain(|other| other.id != segment);
+        self.used.retain(|run| run.segment != segment);
+        self.free.retain(|run| run.segment != segment);
+        self.pages -= used + free;
+        self.free_pages -= free;
+        used
+    }
+
+    /// Whether this is one of the used spans.
+    pub fn has(&self, span: &Span) -> bool
+        ensures { IsTrue result ↔ Contains self.now.used span.now }
+    {
+        self.used.contains(&span.run)
+    }
+
+    /// Whether one of the segments has this number.
+    pub fn has_segment(&self, segment: u64) -> bool
+        ensures { result ≡ has_segment self.now.segments segment }
+    {
+        self.segments.iter().any(|other| other.id == segment)
+    }
+
+    /// Whether no used span lies in this segment.
+    pub fn all_free(&self, segment: u64) -> bool
+        requires { IsTrue (has_segment self.now.segments segment) }
+    {
+        self.used.iter().all(|run| run.segment != segment)
+    }
+
+    /// The pages of all free runs.
+    pub fn free_pages(&self) -> u64
+        ensures { result ≡ pages_of self.now.free }
+    {
+        u64::from(self.free_pages)
+    }
+
+    /// The free runs, the oldest first.
+    pub fn runs(&self, alloc: Global) -> Result<Runs, NoMemory>
+        ensures { IfOk result (λ runs. runs ≡ self.now.free) }
+    {
+        Ok(Runs {
+            runs: Vec::from_slice(alloc, self.free.as_slice())?,
+        })
+    }
+}
+
+/// How many pages of one segment these runs have.
+fn pages_of_segment(runs: &[Run], segment: u64) -> u32
+    requires { pages_of runs.now < 2 ^ 32 }
+    ensures { result ≡ pages_in segment runs.now }
+{
+    runs.iter().filter(|run| run.segment == segment).map(|run| run.pages).sum()
+}
