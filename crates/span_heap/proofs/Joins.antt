@@ -3,7 +3,7 @@ use Rattle.std.proofs.Common.{◌≡◌, ℕ, ◌+◌, ◌-◌, ◌<◌, ◌≤�
 use Rattle.std.specs.List.{sum_by, filter}
 use Rattle.std.proofs.lemmas.Bool.{and_parts, and_right, eqb-true, ne_eqb}
 use Rattle.span_heap.specs.declared.run.Run.{Run}
-use Rattle.span_heap.specs.Run.{lies_in, begins_at, ends_at, pages_of}
+use Rattle.span_heap.specs.Run.{lies_in, begins_at, ends_at, is_beside, pages_of}
 use Rattle.span_heap.specs.Runs.{pages_before, pages_behind}
 use Rattle.span_heap.proofs.Lists.{sum_of_three_parts}
 
@@ -15,7 +15,7 @@ ends_before_it span sized run ends =
 
 -- the runs that stay, those before the span and those behind it are all of them
 pub sum_of_beside : (f : Run → ℕ) (runs : List Run) (span : Run) → 1 ≤ span.pages
-    → sum_by f (filter (λ run. not (ends_at span.segment span.first run || begins_at span.segment (span.first + span.pages) run)) runs)
+    → sum_by f (filter (λ run. not (is_beside span run)) runs)
         + (sum_by f (filter (ends_at span.segment span.first) runs) + sum_by f (filter (begins_at span.segment (span.first + span.pages)) runs))
       ≡ sum_by f runs
 sum_of_beside f runs span sized =

@@ -2,3 +2,11 @@ pub mod Lists
 pub mod Joins
 pub mod Found
 pub mod Picks
+pub mod Pages
+pub mod Covered
+pub mod Carved
+pub mod Freed
+pub mod Cut
+pub mod Grown
+pub mod Dropped
+pub mod Kept

@@ -11,6 +11,9 @@ pub record Contents : Type 0 where
   pub used : List Run
   pub free : List Run
 
+abbrev pub contents : List Segment → List Run → List Run → Contents
+contents segments used free = record { segments = segments; used = used; free = free }
+
 -- the segment has this number
 abbrev pub has_id : ℕ → Segment → Bool
 has_id id segment = segment.id == id

@@ -3,10 +3,17 @@ use Rattle.std.specs.Prelude.{ℕ, ◌+◌, ◌-◌, not, nat_lt, List, [], ◌�
 use Rattle.span_heap.specs.declared.run.Run.{Run}
 use Rattle.span_heap.specs.Run.{lies_in, begins_at, ends_at, is_beside, is_run, pages_of}
 
+-- the first n pages of a run
+abbrev pub front_of : Run → ℕ → Run
+front_of run n = record { segment = run.segment; first = run.first; pages = n }
+
+-- the pages of a run behind its first n
+abbrev pub back_of : Run → ℕ → Run
+back_of run n = record { segment = run.segment; first = run.first + n; pages = run.pages - n }
+
 -- what a run has behind its first n pages, if anything
 abbrev pub rest_of : Run → ℕ → List Run
-rest_of run n =
-    if nat_lt n run.pages then record { segment = run.segment; first = run.first + n; pages = run.pages - n } ∷ [] else []
+rest_of run n = if nat_lt n run.pages then back_of run n ∷ [] else []
 
 -- after the first n pages of a run were taken: the run leaves, and what is left of it is appended
 abbrev pub carved : List Run → Run → ℕ → List Run

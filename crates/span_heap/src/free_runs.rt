@@ -37,11 +37,7 @@ pub(crate) fn carve(runs: &mut Vec<Run>, place: usize, pages: u32) -> Run
 {
     let run = runs.remove(place);
     if pages < run.pages {
-        runs.push_reserved(Run {
-            segment: run.segment,
-            first: run.first + pages,
-            pages: run.pages - pages,
-        });
+        runs.push_reserved(run.back(pages));
     }
     run
 }

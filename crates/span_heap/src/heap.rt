@@ -1,8 +1,9 @@
-ghost use Rattle.std.specs.Prelude.{◌≡◌, ◌+◌, ◌-◌, ◌^◌, ◌<◌, ◌≤◌, ◌↔◌, not, [], ◌∷◌, ◌++◌, All, Contains, IsPermutation, IsTrue, IsFalse, IfOk, IfSome, OnOk, OnErr, MatchOption, filter, vec_capacity};
-ghost use Rattle.span_heap.specs.Run.{lies_in, pages_of};
-ghost use Rattle.span_heap.specs.Runs.{carved, freed, dropped};
+ghost use Rattle.std.specs.Prelude.{◌≡◌, ◌+◌, ◌-◌, ◌^◌, ◌<◌, ◌≤◌, ◌↔◌, ◌≢◌, not, [], ◌∷◌, ◌++◌, All, Contains, IsPermutation, IsTrue, IsFalse, IfOk, IfSome, IfNone, OnOk, OnErr, filter};
+ghost use Rattle.std.specs.Option.{option_map};
+ghost use Rattle.span_heap.specs.Run.{pages_of};
+ghost use Rattle.span_heap.specs.Runs.{front_of, back_of, carved, freed, dropped};
 ghost use Rattle.span_heap.specs.Pick.{pick};
-ghost use Rattle.span_heap.specs.Heap.{Contents, IsPartition, has_id, has_segment, size_of, pages_in};
+ghost use Rattle.span_heap.specs.Heap.{contents, IsPartition, has_id, has_segment, size_of, pages_in};
 
 use crate::free_runs::{carve, join, pick};
 use crate::run::{Run, Runs};
@@ -28,20 +29,20 @@ pub struct Heap {
 
 impl Model for Heap {
     ghost use Rattle.std.specs.Prelude.{◌≤◌, vec_capacity};
-    ghost use Rattle.span_heap.specs.Heap.{Contents, IsKept};
+    ghost use Rattle.span_heap.specs.Heap.{Contents, contents, IsKept};
 
     ghost Value = { Contents };
 
-    ghost view = { λ h. record { segments = h.segments.items; used = h.used.items; free = h.free.items } };
+    ghost view = { λ h. contents h.segments.items h.used.items h.free.items };
 
-    ghost invariant = { λ h. IsKept (record { segments = h.segments.items; used = h.used.items; free = h.free.items }) h.pages h.free_pages
+    ghost invariant = { λ h. IsKept (contents h.segments.items h.used.items h.free.items) h.pages h.free_pages
         × (h.pages ≤ vec_capacity h.used) × (h.pages ≤ vec_capacity h.free) };
 }
 
 impl Heap {
     /// A heap with no segment.
     pub fn new(alloc: Global) -> Result<Heap, NoMemory>
-        ensures { IfOk result (λ heap. heap ≡ record { segments = []; used = []; free = [] }) }
+        ensures { IfOk result (λ heap. heap ≡ contents [] [] []) }
     {
         Ok(Heap {
             segments: Vec::new(alloc),
@@ -58,6 +59,14 @@ impl Heap {
         requires fresh { IsFalse (has_segment self.old.segments segment) }
         requires sized { (1 ≤ pages) × (pages ≤ 65536) }
         requires small { size_of self.old.segments + pages < 2 ^ 32 }
+
+        // The whole segment is one used span.
+        ensures span { IfOk result (λ span. span ≡ record { segment = segment; first = 0; pages = pages }) }
+        ensures segments { OnOk result (self.new.segments ≡ self.old.segments ++ record { id = segment; pages = pages } ∷ []) }
+        ensures used { IfOk result (λ span. IsPermutation (span ∷ self.old.used) self.new.used) }
+        ensures free { self.new.free ≡ self.old.free }
+        ensures err { OnErr result (self.new ≡ self.old) }
+        ensures partition { IsPartition self.new }
     {
         let total = self.pages + pages;
         self.segments.reserve(1)?;
@@ -80,9 +89,15 @@ impl Heap {
     pub fn search(&mut self, pages: u32, slack: u32) -> Option<Span>
         requires sized { 1 ≤ pages }
         requires small { pages + slack < 2 ^ 32 }
+        ensures span { result ≡ option_map (λ run. front_of run pages) (pick self.old.free pages slack) }
+        ensures free { IfSome (pick self.old.free pages slack) (λ run. self.new.free ≡ carved self.old.free run pages) }
+        ensures used { IfSome result (λ span. IsPermutation (span ∷ self.old.used) self.new.used) }
+        ensures segments { self.new.segments ≡ self.old.segments }
+        ensures none { IfNone result (self.new ≡ self.old) }
+        ensures partition { IsPartition self.new }
     {
         let place = pick(self.free.as_slice(), pages, pages + slack)?;
-        let run = carve(&mut self.free, place, pages);
+        let run = carve(&mut self.free, place, pages).front(pages);
         self.used.push_reserved(run);
         self.free_pages -= pages;
         Some(Span { run })
@@ -92,18 +107,14 @@ impl Heap {
     pub fn split(&mut self, span: Span, front: u32) -> (Span, Span)
         requires used { Contains self.old.used span }
         requires within { (1 ≤ front) × (front < span.pages) }
+        ensures spans { result ≡ (front_of span front, back_of span front) }
+        ensures used { IsPermutation (result.0 ∷ result.1 ∷ self.old.used) (span ∷ self.new.used) }
+        ensures free { self.new.free ≡ self.old.free }
+        ensures segments { self.new.segments ≡ self.old.segments }
+        ensures partition { IsPartition self.new }
     {
         let whole = span.run;
-        let front = Run {
-            segment: whole.segment,
-            first: whole.first,
-            pages: front,
-        };
-        let back = Run {
-            segment: whole.segment,
-            first: whole.first + front.pages,
-            pages: whole.pages - front.pages,
-        };
+        let (front, back) = (whole.front(front), whole.back(front));
         take_out(&mut self.used, whole);
         self.used.push_reserved(front);
         self.used.push_reserved(back);
@@ -114,6 +125,10 @@ impl Heap {
     /// the joined run is the latest.
     pub fn free(&mut self, span: Span)
         requires { Contains self.old.used span }
+        ensures free { self.new.free ≡ freed self.old.free span }
+        ensures used { IsPermutation self.old.used (span ∷ self.new.used) }
+        ensures segments { self.new.segments ≡ self.old.segments }
+        ensures partition { IsPartition self.new }
     {
         let run = span.run;
         take_out(&mut self.used, run);
@@ -125,6 +140,11 @@ impl Heap {
     /// were used.
     pub fn drop_segment(&mut self, segment: u64) -> u32
         requires { IsTrue (has_segment self.old.segments segment) }
+        ensures answer { result ≡ pages_in segment self.old.used }
+        ensures segments { self.new.segments ≡ filter (λ other. not (has_id segment other)) self.old.segments }
+        ensures used { IsPermutation (dropped self.old.used segment) self.new.used }
+        ensures free { self.new.free ≡ dropped self.old.free segment }
+        ensures partition { IsPartition self.new }
     {
         let used = pages_of_segment(self.used.as_slice(), segment);
         let free = pages_of_segment(self.free.as_slice(), segment);
@@ -138,7 +158,8 @@ impl Heap {
 
     /// Whether this is one of the used spans.
     pub fn has(&self, span: &Span) -> bool
-        ensures { IsTrue result ↔ Contains self.now.used span.now }
+        ensures answer { IsTrue result ↔ Contains self.now.used span.now }
+        ensures partition { IsPartition self.now }
     {
         self.used.contains(&span.run)
     }
@@ -153,6 +174,7 @@ impl Heap {
     /// Whether no used span lies in this segment.
     pub fn all_free(&self, segment: u64) -> bool
         requires { IsTrue (has_segment self.now.segments segment) }
+        ensures { IsTrue result ↔ All (λ run. run.segment ≢ segment) self.now.used }
     {
         self.used.iter().all(|run| run.segment != segment)
     }

@@ -1,5 +1,6 @@
-ghost use Rattle.std.specs.Prelude.{◌≡◌, ℕ, ◌+◌, ◌-◌, ◌≤◌, List, length, slice_get};
+ghost use Rattle.std.specs.Prelude.{◌≡◌, ℕ, ◌+◌, ◌-◌, ◌^◌, ◌<◌, ◌≤◌, List, length, slice_get};
 ghost use Rattle.span_heap.specs.Pick.{fits};
+ghost use Rattle.span_heap.specs.Runs.{front_of, back_of};
 ghost use Rattle.span_heap.specs.Run.{begins_at, ends_at, is_beside};
 
 use std::marker::Model;
@@ -21,6 +22,26 @@ impl Run {
         ensures { result ≡ self.now.first + self.now.pages }
     {
         u64::from(self.first) + u64::from(self.pages)
+    }
+
+    /// Its first `pages` pages.
+    pub(crate) fn front(self, pages: u32) -> Run
+        ensures { result ≡ front_of self pages }
+    {
+        Run { pages, ..self }
+    }
+
+    /// Its pages behind the first `pages`.
+    pub(crate) fn back(self, pages: u32) -> Run
+        requires within { pages ≤ self.pages }
+        requires end { self.first + pages < 2 ^ 32 }
+        ensures { result ≡ back_of self pages }
+    {
+        Run {
+            segment: self.segment,
+            first: self.first + pages,
+            pages: self.pages - pages,
+        }
     }
 
     /// Whether this run has at least `pages` pages and at most `most`.
