@@ -10,3 +10,5 @@ pub mod Cut
 pub mod Grown
 pub mod Dropped
 pub mod Kept
+pub mod Room
+pub mod Taken

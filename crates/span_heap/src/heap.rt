@@ -7,7 +7,7 @@ ghost use Rattle.span_heap.specs.Heap.{contents, IsPartition, has_id, has_segmen
 
 use crate::free_runs::{carve, join, pick};
 use crate::run::{Run, Runs};
-use crate::segment::Segment;
+use crate::segment::{Segment, make_room, pages_in, remove_runs, remove_segment};
 use crate::span::Span;
 use crate::used_spans::take_out;
 use machine::NoMemory;
@@ -70,8 +70,8 @@ impl Heap {
     {
         let total = self.pages + pages;
         self.segments.reserve(1)?;
-        self.used.reserve(total as usize - self.used.len())?;
-        self.free.reserve(total as usize - self.free.len())?;
+        make_room(&mut self.used, total)?;
+        make_room(&mut self.free, total)?;
         let run = Run {
             segment,
             first: 0,
@@ -114,8 +114,8 @@ impl Heap {
         ensures partition { IsPartition self.new }
     {
         let whole = span.run;
-        let (front, back) = (whole.front(front), whole.back(front));
         take_out(&mut self.used, whole);
+        let (front, back) = (whole.front(front), whole.back(front));
         self.used.push_reserved(front);
         self.used.push_reserved(back);
         (Span { run: front }, Span { run: back })
@@ -146,11 +146,11 @@ impl Heap {
         ensures free { self.new.free ≡ dropped self.old.free segment }
         ensures partition { IsPartition self.new }
     {
-        let used = pages_of_segment(self.used.as_slice(), segment);
-        let free = pages_of_segment(self.free.as_slice(), segment);
-        self.segments.retain(|other| other.id != segment);
-        self.used.retain(|run| run.segment != segment);
-        self.free.retain(|run| run.segment != segment);
+        let used = pages_in(self.used.as_slice(), segment);
+        let free = pages_in(self.free.as_slice(), segment);
+        remove_segment(&mut self.segments, segment);
+        remove_runs(&mut self.used, segment);
+        remove_runs(&mut self.free, segment);
         self.pages -= used + free;
         self.free_pages -= free;
         used
@@ -194,12 +194,4 @@ impl Heap {
             runs: Vec::from_slice(alloc, self.free.as_slice())?,
         })
     }
-}
-
-/// How many pages of one segment these runs have.
-fn pages_of_segment(runs: &[Run], segment: u64) -> u32
-    requires { pages_of runs.now < 2 ^ 32 }
-    ensures { result ≡ pages_in segment runs.now }
-{
-    runs.iter().filter(|run| run.segment == segment).map(|run| run.pages).sum()
 }
