@@ -10,8 +10,9 @@ use Rattle.span_heap.specs.declared.run.Run.{Run}
 use Rattle.span_heap.specs.declared.segment.Segment.{Segment}
 use Rattle.span_heap.specs.Run.{lies_in, has_page, begins_at, ends_at, pages_of}
 use Rattle.span_heap.specs.Runs.{front_of, back_of, rest_of}
-use Rattle.span_heap.specs.Heap.{Contents, contents, IsPartition}
-use Rattle.span_heap.proofs.Covered.{sum_by-with, sum_by-given, one_if, has_page-within, at_most_once, begins-le-pages, ends-le-pages}
+use Rattle.span_heap.specs.Heap.{Contents, contents}
+use Rattle.span_heap.proofs.Counted.{IsCounted, has_page-within}
+use Rattle.span_heap.proofs.Covered.{sum_by-with, sum_by-given, one_if, at_most_once, begins-le-pages, ends-le-pages}
 use Rattle.span_heap.proofs.Pages.{within, within-split, cond-sum}
 
 -- either something is left of a run behind its first n pages, or it has just these
@@ -48,7 +49,7 @@ carved_sum f used free others used' run n taken given cut =
     omega (arith, cut, sum_by-with f free others run taken, sum_by-given f used used' (front_of run n) given, sum_by-append f others (rest_of run n))
 
 -- what is left touches no other run
-carved_apart : (segments : List Segment) (used free others : List Run) (run : Run) (n : ℕ) → IsPartition (contents segments used free) → IsPermutation free (run ∷ others)
+carved_apart : (segments : List Segment) (used free others : List Run) (run : Run) (n : ℕ) → IsCounted (contents segments used free) → IsPermutation free (run ∷ others)
     → 1 ≤ n → n < run.pages → (id page : ℕ) → (b : Bool) → begins_at id page (back_of run n) ≡ b
     → cond {A = ℕ} (ends_at id page (back_of run n)) 1 0 + cond {A = ℕ} b 1 0 + (count_by (ends_at id page) others + count_by (begins_at id page) others) ≤ 1
 carved_apart segments used free others run n whole taken low high id page true begins =
@@ -76,10 +77,10 @@ carved_apart segments used free others run n whole taken low high id page false 
        sum_by-with (λ x. cond {A = ℕ} (begins_at id page x) 1 0) free others run taken
      ))
 
-pub IsPartition-carved : (segments : List Segment) (used free others used' : List Run) (run : Run) (n : ℕ) → IsPartition (contents segments used free)
+pub IsCounted-carved : (segments : List Segment) (used free others used' : List Run) (run : Run) (n : ℕ) → IsCounted (contents segments used free)
     → IsPermutation free (run ∷ others) → IsPermutation (front_of run n ∷ used) used' → 1 ≤ n → n ≤ run.pages
-    → IsPartition (contents segments used' (others ++ rest_of run n))
-IsPartition-carved segments used free others used' run n whole taken given low high =
+    → IsCounted (contents segments used' (others ++ rest_of run n))
+IsCounted-carved segments used free others used' run n whole taken given low high =
     record {
       once = λ id page.
         carved_sum (λ x. cond {A = ℕ} (has_page id page x) 1 0) used free others used' run n taken given

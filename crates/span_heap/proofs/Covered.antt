@@ -9,7 +9,8 @@ use Rattle.std.proofs.lemmas.Bool.{and_parts, and_from, eqb-true, eq-eqb, ltb-tr
 use Rattle.span_heap.specs.declared.run.Run.{Run}
 use Rattle.span_heap.specs.declared.segment.Segment.{Segment}
 use Rattle.span_heap.specs.Run.{lies_in, has_page, begins_at, ends_at, is_run, pages_of}
-use Rattle.span_heap.specs.Heap.{Contents, IsPartition, has_id, holds_page, size_of}
+use Rattle.span_heap.specs.Heap.{Contents, has_id, holds_page, size_of}
+use Rattle.span_heap.proofs.Counted.{IsCounted, has_page-within, held_once}
 use Rattle.span_heap.proofs.Lists.{count_by-le-count_by, counted}
 use Rattle.span_heap.proofs.Found.{is_run-true}
 
@@ -23,18 +24,9 @@ sum_by-given f runs more run given = sum_by-IsPermutation f (run ∷ runs) more 
 pub one_if : (b : Bool) → b ≡ true → cond {A = ℕ} b 1 0 ≡ 1
 one_if b e = cond-true {A = ℕ} b 1 0 e
 
--- a run has each page from its first up to its end
-pub has_page-within : (run : Run) (page : ℕ) → run.first ≤ page → page < run.first + run.pages → has_page run.segment page run ≡ true
-has_page-within run page low high =
-    and_from _ _ (eq-eqb run.segment run.segment refl) (and_from _ _ (le-leb run.first page low) (lt-ltb page (run.first + run.pages) high))
-
 -- no page is covered twice
-pub at_most_once : (heap : Contents) → IsPartition heap → (id page : ℕ) → count_by (has_page id page) heap.used + count_by (has_page id page) heap.free ≤ 1
-at_most_once heap whole id page =
-    omega (
-      arith, whole.once id page, whole.distinct id,
-      count_by-le-count_by (λ _. Unit {0}) (holds_page id page) (has_id id) heap.segments (λ k d w. tt) (λ segment w e. (and_parts _ _ e).0)
-    )
+pub at_most_once : (heap : Contents) → IsCounted heap → (id page : ℕ) → count_by (has_page id page) heap.used + count_by (has_page id page) heap.free ≤ 1
+at_most_once heap whole id page = omega (arith, whole.once id page, held_once heap whole.distinct id page)
 
 -- a run that begins at a page has it
 pub begins-le-pages : (id page : ℕ) (runs : List Run) → All (λ run. 1 ≤ run.pages) runs → count_by (begins_at id page) runs ≤ count_by (has_page id page) runs
@@ -75,23 +67,23 @@ page_below_size id page (segment ∷ segments) some =
        (rw (sum_by-cons (λ (x : Segment). cond {A = ℕ} (holds_page id page x) 1 0) segment segments) at some))
 
 -- each run lies within its segment, so its end is no greater than the size of all segments
-end-le-size : (heap : Contents) → IsPartition heap → (run : Run) → 1 ≤ run.pages
+end-le-size : (heap : Contents) → IsCounted heap → (run : Run) → 1 ≤ run.pages
     → ((p : Run → Bool) → p run ≡ true → 1 ≤ count_by p heap.used + count_by p heap.free) → run.first + run.pages ≤ size_of heap.segments
 end-le-size heap whole run sized there =
     let last = run.first + run.pages - 1 in
     let covered = there (has_page run.segment last) (has_page-within run last (omega arith) (omega arith)) in
     omega (arith, page_below_size run.segment last heap.segments (omega (arith, covered, whole.once run.segment last)))
 
-pub used_end-le-size : (heap : Contents) → IsPartition heap → (run : Run) → Contains heap.used run → run.first + run.pages ≤ size_of heap.segments
+pub used_end-le-size : (heap : Contents) → IsCounted heap → (run : Run) → Contains heap.used run → run.first + run.pages ≤ size_of heap.segments
 used_end-le-size heap whole run there =
     end-le-size heap whole run (All-contains (λ x. 1 ≤ x.pages) heap.used run whole.used_sized there) (λ p e. omega (arith, counted p heap.used run there e))
 
-pub free_end-le-size : (heap : Contents) → IsPartition heap → (run : Run) → Contains heap.free run → run.first + run.pages ≤ size_of heap.segments
+pub free_end-le-size : (heap : Contents) → IsCounted heap → (run : Run) → Contains heap.free run → run.first + run.pages ≤ size_of heap.segments
 free_end-le-size heap whole run there =
     end-le-size heap whole run (All-contains (λ x. 1 ≤ x.pages) heap.free run whole.free_sized there) (λ p e. omega (arith, counted p heap.free run there e))
 
 -- a run that stands in a list stands in it once, where no page is covered twice
-pub is_run-once : (heap : Contents) → IsPartition heap → (run : Run) → 1 ≤ run.pages → count_by (is_run run) heap.free ≤ 1
+pub is_run-once : (heap : Contents) → IsCounted heap → (run : Run) → 1 ≤ run.pages → count_by (is_run run) heap.free ≤ 1
 is_run-once heap whole run sized =
     omega (
       arith, at_most_once heap whole run.segment run.first,

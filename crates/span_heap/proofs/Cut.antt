@@ -9,7 +9,8 @@ use Rattle.span_heap.specs.declared.run.Run.{Run}
 use Rattle.span_heap.specs.declared.segment.Segment.{Segment}
 use Rattle.span_heap.specs.Run.{has_page}
 use Rattle.span_heap.specs.Runs.{front_of, back_of}
-use Rattle.span_heap.specs.Heap.{contents, IsPartition}
+use Rattle.span_heap.specs.Heap.{contents}
+use Rattle.span_heap.proofs.Counted.{IsCounted}
 use Rattle.span_heap.proofs.Carved.{cut_pages}
 
 -- what a measure that adds up counts stays
@@ -21,9 +22,9 @@ cut_sum f used used' span n swapped cut =
       sum_by-cons f (front_of span n) (back_of span n ∷ used), sum_by-cons f (back_of span n) used, sum_by-cons f span used'
     )
 
-pub IsPartition-cut : (segments : List Segment) (used free used' : List Run) (span : Run) (n : ℕ) → IsPartition (contents segments used free)
-    → IsPermutation (front_of span n ∷ back_of span n ∷ used) (span ∷ used') → 1 ≤ n → n < span.pages → IsPartition (contents segments used' free)
-IsPartition-cut segments used free used' span n whole swapped low high =
+pub IsCounted-cut : (segments : List Segment) (used free used' : List Run) (span : Run) (n : ℕ) → IsCounted (contents segments used free)
+    → IsPermutation (front_of span n ∷ back_of span n ∷ used) (span ∷ used') → 1 ≤ n → n < span.pages → IsCounted (contents segments used' free)
+IsCounted-cut segments used free used' span n whole swapped low high =
     record {
       once = λ id page. omega (
         arith, whole.once id page,

@@ -10,7 +10,8 @@ use Rattle.span_heap.specs.declared.run.Run.{Run}
 use Rattle.span_heap.specs.declared.segment.Segment.{Segment}
 use Rattle.span_heap.specs.Run.{lies_in, has_page, begins_at, ends_at}
 use Rattle.span_heap.specs.Runs.{dropped}
-use Rattle.span_heap.specs.Heap.{contents, IsPartition, has_id, holds_page}
+use Rattle.span_heap.specs.Heap.{contents, has_id, holds_page}
+use Rattle.span_heap.proofs.Counted.{IsCounted}
 use Rattle.span_heap.proofs.Lists.{sum_by-filter, sum_by-same, sum_by-none}
 
 -- one term of a sum over what has one number, where what has another number leaves
@@ -44,10 +45,10 @@ pub both_kept : (b : Bool) (x y z : ℕ) → x + y ≡ z → cond b x 0 + cond b
 both_kept true x y z e = e
 both_kept false x y z e = omega arith
 
-pub IsPartition-dropped : (segments : List Segment) (used free used' : List Run) (segment : ℕ) → IsPartition (contents segments used free)
+pub IsCounted-dropped : (segments : List Segment) (used free used' : List Run) (segment : ℕ) → IsCounted (contents segments used free)
     → IsPermutation (dropped used segment) used'
-    → IsPartition (contents (filter (λ other. not (has_id segment other)) segments) used' (dropped free segment))
-IsPartition-dropped segments used free used' segment whole left =
+    → IsCounted (contents (filter (λ other. not (has_id segment other)) segments) used' (dropped free segment))
+IsCounted-dropped segments used free used' segment whole left =
     record {
       once = λ id page. omega (
         arith,

@@ -10,10 +10,11 @@ use Rattle.span_heap.specs.declared.run.Run.{Run}
 use Rattle.span_heap.specs.declared.segment.Segment.{Segment}
 use Rattle.span_heap.specs.Run.{lies_in, has_page, begins_at, ends_at, is_beside, pages_of}
 use Rattle.span_heap.specs.Runs.{pages_before, pages_behind, joined, freed}
-use Rattle.span_heap.specs.Heap.{Contents, contents, IsPartition}
+use Rattle.span_heap.specs.Heap.{Contents, contents}
+use Rattle.span_heap.proofs.Counted.{IsCounted, has_page-within}
 use Rattle.span_heap.proofs.Lists.{filter_at_most_one}
 use Rattle.span_heap.proofs.Joins.{sum_of_beside}
-use Rattle.span_heap.proofs.Covered.{sum_by-with, one_if, has_page-within, at_most_once, begins-le-pages, ends-le-pages}
+use Rattle.span_heap.proofs.Covered.{sum_by-with, one_if, at_most_once, begins-le-pages, ends-le-pages}
 use Rattle.span_heap.proofs.Pages.{within, within-split, within-empty, within-same}
 
 -- the free runs directly before a span, and directly behind it
@@ -24,13 +25,13 @@ abbrev pub behind : List Run → Run → List Run
 behind free span = filter (begins_at span.segment (span.first + span.pages)) free
 
 -- there is at most one run before a span
-pub before_cases : (heap : Contents) (span : Run) → IsPartition heap
+pub before_cases : (heap : Contents) (span : Run) → IsCounted heap
     → (before heap.free span ≡ []) ⊎ ((run : Run) × (before heap.free span ≡ run ∷ []) × (ends_at span.segment span.first run ≡ true))
 before_cases heap span whole =
     filter_at_most_one (ends_at span.segment span.first) heap.free (omega (arith, whole.apart span.segment span.first))
 
 -- and at most one behind it
-pub behind_cases : (heap : Contents) (span : Run) → IsPartition heap
+pub behind_cases : (heap : Contents) (span : Run) → IsCounted heap
     → (behind heap.free span ≡ []) ⊎ ((run : Run) × (behind heap.free span ≡ run ∷ []) × (begins_at span.segment (span.first + span.pages) run ≡ true))
 behind_cases heap span whole =
     filter_at_most_one (begins_at span.segment (span.first + span.pages)) heap.free (omega (arith, whole.apart span.segment (span.first + span.pages)))
@@ -46,7 +47,7 @@ begins_there span run begins =
     (eqb-true run.segment span.segment parts.0, eqb-true run.first (span.first + span.pages) parts.1)
 
 -- the pages before a span end where it begins
-pub pages_before-le : (heap : Contents) (span : Run) → IsPartition heap → pages_before heap.free span ≤ span.first
+pub pages_before-le : (heap : Contents) (span : Run) → IsCounted heap → pages_before heap.free span ≤ span.first
 pages_before-le heap span whole =
     let P : List Run → Type 0 = λ runs. pages_of runs ≤ span.first in
     elim (before_cases heap span whole) [
@@ -55,7 +56,7 @@ pages_before-le heap span whole =
     ]
 
 -- they cover what lies from the joined run's first page up to the span
-before_covers : (heap : Contents) (span : Run) → IsPartition heap → (id page : ℕ)
+before_covers : (heap : Contents) (span : Run) → IsCounted heap → (id page : ℕ)
     → count_by (has_page id page) (before heap.free span) ≡ within id page span.segment (span.first - pages_before heap.free span) span.first
 before_covers heap span whole id page =
     let P : List Run → Type 0 = λ runs. count_by (has_page id page) runs ≡ within id page span.segment (span.first - pages_of runs) span.first in
@@ -67,7 +68,7 @@ before_covers heap span whole id page =
         (omega (arith, within-same id page run.segment span.segment run.first (span.first - (0 + run.pages)) (run.first + run.pages) span.first there.0 (omega (arith, there.1)) there.1))
     ]
 
-behind_covers : (heap : Contents) (span : Run) → IsPartition heap → (id page : ℕ)
+behind_covers : (heap : Contents) (span : Run) → IsCounted heap → (id page : ℕ)
     → count_by (has_page id page) (behind heap.free span) ≡ within id page span.segment (span.first + span.pages) (span.first + span.pages + pages_behind heap.free span)
 behind_covers heap span whole id page =
     let P : List Run → Type 0 = λ runs. count_by (has_page id page) runs ≡ within id page span.segment (span.first + span.pages) (span.first + span.pages + pages_of runs) in
@@ -80,7 +81,7 @@ behind_covers heap span whole id page =
     ]
 
 -- the joined run has the pages of the span and those of the runs beside it
-joined_covers : (heap : Contents) (span : Run) → IsPartition heap → (id page : ℕ)
+joined_covers : (heap : Contents) (span : Run) → IsCounted heap → (id page : ℕ)
     → cond {A = ℕ} (has_page id page (joined heap.free span)) 1 0
       ≡ cond {A = ℕ} (has_page id page span) 1 0 + (count_by (has_page id page) (before heap.free span) + count_by (has_page id page) (behind heap.free span))
 joined_covers heap span whole id page =
@@ -109,7 +110,7 @@ count_none : (p : Run → Bool) (runs : List Run) → filter p runs ≡ [] → c
 count_none p runs none = sym (length-filter p runs) ∙ ap length none
 
 -- no other run ends or begins where the joined one begins
-nothing_at_begin : (segments : List Segment) (used free used' : List Run) (span : Run) → IsPartition (contents segments used free) → IsPermutation used (span ∷ used')
+nothing_at_begin : (segments : List Segment) (used free used' : List Run) (span : Run) → IsCounted (contents segments used free) → IsPermutation used (span ∷ used')
     → 1 ≤ span.pages
     → count_by (ends_at span.segment (joined free span).first) (filter (λ run. not (is_beside span run)) free)
         + count_by (begins_at span.segment (joined free span).first) (filter (λ run. not (is_beside span run)) free) ≡ 0
@@ -144,7 +145,7 @@ nothing_at_begin segments used free used' span whole taken sized =
     ]
 
 -- no other run ends or begins where the joined one ends
-nothing_at_end : (segments : List Segment) (used free used' : List Run) (span : Run) → IsPartition (contents segments used free) → IsPermutation used (span ∷ used')
+nothing_at_end : (segments : List Segment) (used free used' : List Run) (span : Run) → IsCounted (contents segments used free) → IsPermutation used (span ∷ used')
     → 1 ≤ span.pages
     → count_by (ends_at span.segment (span.first + span.pages + pages_behind free span)) (filter (λ run. not (is_beside span run)) free)
         + count_by (begins_at span.segment (span.first + span.pages + pages_behind free span)) (filter (λ run. not (is_beside span run)) free) ≡ 0
@@ -180,7 +181,7 @@ nothing_at_end segments used free used' span whole taken sized =
     ]
 
 -- the joined run touches no other run
-joined_apart : (segments : List Segment) (used free used' : List Run) (span : Run) → IsPartition (contents segments used free) → IsPermutation used (span ∷ used')
+joined_apart : (segments : List Segment) (used free used' : List Run) (span : Run) → IsCounted (contents segments used free) → IsPermutation used (span ∷ used')
     → 1 ≤ span.pages → (id page : ℕ) (b e : Bool) → begins_at id page (joined free span) ≡ b → ends_at id page (joined free span) ≡ e
     → cond {A = ℕ} e 1 0 + cond {A = ℕ} b 1 0
         + (count_by (ends_at id page) (filter (λ run. not (is_beside span run)) free) + count_by (begins_at id page) (filter (λ run. not (is_beside span run)) free)) ≤ 1
@@ -211,9 +212,9 @@ joined_apart segments used free used' span whole taken sized id page false false
       sum_of_beside (λ x. cond {A = ℕ} (begins_at id page x) 1 0) free span sized
     )
 
-pub IsPartition-freed : (segments : List Segment) (used free used' : List Run) (span : Run) → IsPartition (contents segments used free)
-    → IsPermutation used (span ∷ used') → IsPartition (contents segments used' (freed free span))
-IsPartition-freed segments used free used' span whole taken =
+pub IsCounted-freed : (segments : List Segment) (used free used' : List Run) (span : Run) → IsCounted (contents segments used free)
+    → IsPermutation used (span ∷ used') → IsCounted (contents segments used' (freed free span))
+IsCounted-freed segments used free used' span whole taken =
     record {
       once = λ id page.
         freed_sum (λ x. cond {A = ℕ} (has_page id page x) 1 0) used free used' span taken sized (joined_covers (contents segments used free) span whole id page)

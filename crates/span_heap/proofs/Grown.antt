@@ -10,15 +10,9 @@ use Rattle.std.proofs.lemmas.Bool.Decides.{nat_tests}
 use Rattle.span_heap.specs.declared.run.Run.{Run}
 use Rattle.span_heap.specs.declared.segment.Segment.{Segment}
 use Rattle.span_heap.specs.Run.{has_page}
-use Rattle.span_heap.specs.Heap.{contents, IsPartition, has_id, holds_page, has_segment}
+use Rattle.span_heap.specs.Heap.{contents, has_id, holds_page, has_segment}
+use Rattle.span_heap.proofs.Counted.{IsCounted, count_of_absent}
 use Rattle.span_heap.proofs.Covered.{sum_by-given}
-
--- a number that no segment has is counted nowhere
-pub count_of_absent : {X : Type 0} (p : X → Bool) (xs : List X) → list_any p xs ≡ false → count_by p xs ≡ 0
-count_of_absent p [] absent = refl
-count_of_absent p (x ∷ xs) absent =
-    let parts = or_parts (p x) (list_any p xs) absent in
-    sum_by-cons (λ y. cond {A = ℕ} (p y) 1 0) x xs ∙ (ap (λ b. cond {A = ℕ} b 1 0 + count_by p xs) parts.0 ∙ (omega (arith, count_of_absent p xs parts.1)))
 
 -- a whole segment as a run
 abbrev pub whole_of : ℕ → ℕ → Run
@@ -35,10 +29,10 @@ grown_distinct segments segment pages absent distinct id true same =
     omega (arith, none)
 grown_distinct segments segment pages absent distinct id false same = omega (arith, distinct id)
 
-pub IsPartition-grown : (segments : List Segment) (used free used' : List Run) (segment pages : ℕ) → IsPartition (contents segments used free)
+pub IsCounted-grown : (segments : List Segment) (used free used' : List Run) (segment pages : ℕ) → IsCounted (contents segments used free)
     → has_segment segments segment ≡ false → IsPermutation (whole_of segment pages ∷ used) used' → 1 ≤ pages
-    → IsPartition (contents (segments ++ record { id = segment; pages = pages } ∷ []) used' free)
-IsPartition-grown segments used free used' segment pages whole absent given sized =
+    → IsCounted (contents (segments ++ record { id = segment; pages = pages } ∷ []) used' free)
+IsCounted-grown segments used free used' segment pages whole absent given sized =
     record {
       once = λ id page. omega (
         arith, whole.once id page, whole_pages id page segment pages,

@@ -13,13 +13,14 @@ use Rattle.span_heap.specs.Run.{lies_in, begins_at, ends_at, pages_of}
 use Rattle.span_heap.specs.Runs.{front_of, back_of, rest_of, pages_before, pages_behind, joined, freed, dropped}
 use Rattle.span_heap.specs.Heap.{Contents, contents, IsPartition, IsKept, has_id, has_segment, size_of, pages_in}
 use Rattle.span_heap.proofs.Lists.{sum_by-filter}
+use Rattle.span_heap.proofs.Counted.{partition_from, counts_of}
 use Rattle.span_heap.proofs.Pages.{cond-sum}
 use Rattle.span_heap.proofs.Covered.{sum_by-with, sum_by-given}
-use Rattle.span_heap.proofs.Carved.{IsPartition-carved, carved_sum, rest_sum, cut_length}
-use Rattle.span_heap.proofs.Freed.{IsPartition-freed, freed_sum, before, behind, before_cases, behind_cases}
-use Rattle.span_heap.proofs.Cut.{IsPartition-cut, cut_sum}
-use Rattle.span_heap.proofs.Grown.{IsPartition-grown, whole_of}
-use Rattle.span_heap.proofs.Dropped.{IsPartition-dropped, sum_kept, both_kept}
+use Rattle.span_heap.proofs.Carved.{IsCounted-carved, carved_sum, rest_sum, cut_length}
+use Rattle.span_heap.proofs.Freed.{IsCounted-freed, freed_sum, before, behind, before_cases, behind_cases}
+use Rattle.span_heap.proofs.Cut.{IsCounted-cut, cut_sum}
+use Rattle.span_heap.proofs.Grown.{IsCounted-grown, whole_of}
+use Rattle.span_heap.proofs.Dropped.{IsCounted-dropped, sum_kept, both_kept}
 
 -- how many pages a run has in a segment
 abbrev pages_there : ℕ → Run → ℕ
@@ -43,7 +44,7 @@ IsKept-carved segments used free others used' run n pages free_pages kept taken 
     let left = sum_by-append (λ (x : Run). x.pages) others (rest_of run n) in
     (omega (arith, here, kept.free_count),
      record {
-       partition = IsPartition-carved segments used free others used' run n kept.partition taken given low high;
+       partition = partition_from _ (IsCounted-carved segments used free others used' run n (counts_of _ kept.partition) taken given low high);
        small = kept.small;
        size = kept.size;
        free_count = omega (arith, here, left, length, kept.free_count);
@@ -70,7 +71,7 @@ before_there : (heap : Contents) (span : Run) → IsPartition heap → (id : ℕ
     → sum_by (pages_there id) (before heap.free span) ≡ cond {A = ℕ} (lies_in id span) (pages_before heap.free span) 0
 before_there heap span whole id =
     let P : List Run → Type 0 = λ runs. sum_by (pages_there id) runs ≡ cond {A = ℕ} (lies_in id span) (pages_of runs) 0 in
-    elim (before_cases heap span whole) [
+    elim (before_cases heap span (counts_of heap whole)) [
       inl none ↦ subst P (sym none) (none_there (lies_in id span))
     | inr (run, one, ends) ↦ subst P (sym one) (one_there id span.segment run (eqb-true run.segment span.segment (and_parts (eqb run.segment span.segment) _ ends).0))
     ]
@@ -79,7 +80,7 @@ behind_there : (heap : Contents) (span : Run) → IsPartition heap → (id : ℕ
     → sum_by (pages_there id) (behind heap.free span) ≡ cond {A = ℕ} (lies_in id span) (pages_behind heap.free span) 0
 behind_there heap span whole id =
     let P : List Run → Type 0 = λ runs. sum_by (pages_there id) runs ≡ cond {A = ℕ} (lies_in id span) (pages_of runs) 0 in
-    elim (behind_cases heap span whole) [
+    elim (behind_cases heap span (counts_of heap whole)) [
       inl none ↦ subst P (sym none) (none_there (lies_in id span))
     | inr (run, one, begins) ↦ subst P (sym one) (one_there id span.segment run (eqb-true run.segment span.segment (and_parts (eqb run.segment span.segment) _ begins).0))
     ]
@@ -92,7 +93,7 @@ pub IsKept-freed : (segments : List Segment) (used free used' : List Run) (span 
     → IsPermutation used (span ∷ used') → IsKept (contents segments used' (freed free span)) pages (free_pages + span.pages)
 IsKept-freed segments used free used' span pages free_pages kept taken =
     record {
-      partition = IsPartition-freed segments used free used' span kept.partition taken;
+      partition = partition_from _ (IsCounted-freed segments used free used' span (counts_of _ kept.partition) taken);
       small = kept.small;
       size = kept.size;
       free_count = omega (arith, all, sum_by-with (λ x. x.pages) used used' span taken, kept.free_count);
@@ -108,7 +109,7 @@ IsKept-freed segments used free used' span pages free_pages kept taken =
     }
   where
     sized : 1 ≤ span.pages
-    sized = All-head (λ (x : Run). 1 ≤ x.pages) span used' (All-permutation (λ (x : Run). 1 ≤ x.pages) used (span ∷ used') taken kept.partition.used_sized)
+    sized = All-head (λ (x : Run). 1 ≤ x.pages) span used' (All-permutation (λ (x : Run). 1 ≤ x.pages) used (span ∷ used') taken (counts_of _ kept.partition).used_sized)
     all : pages_of used' + pages_of (freed free span) ≡ pages_of used + pages_of free
     all = freed_sum (λ x. x.pages) used free used' span taken sized (omega arith)
 
@@ -117,7 +118,7 @@ pub IsKept-cut : (segments : List Segment) (used free used' : List Run) (span : 
     → IsKept (contents segments used' free) pages free_pages
 IsKept-cut segments used free used' span n pages free_pages kept swapped low high =
     record {
-      partition = IsPartition-cut segments used free used' span n kept.partition swapped low high;
+      partition = partition_from _ (IsCounted-cut segments used free used' span n (counts_of _ kept.partition) swapped low high);
       small = kept.small;
       size = kept.size;
       free_count = kept.free_count;
@@ -140,7 +141,7 @@ pub IsKept-grown : (segments : List Segment) (used free used' : List Run) (segme
     → IsKept (contents (segments ++ record { id = segment; pages = more } ∷ []) used' free) (pages + more) free_pages
 IsKept-grown segments used free used' segment more pages free_pages kept absent given sized small =
     record {
-      partition = IsPartition-grown segments used free used' segment more kept.partition absent given sized;
+      partition = partition_from _ (IsCounted-grown segments used free used' segment more (counts_of _ kept.partition) absent given sized);
       small = small;
       size = omega (arith, kept.size, sum_by_push (λ (x : Segment). x.pages) segments (record { id = segment; pages = more }));
       free_count = kept.free_count;
@@ -158,7 +159,7 @@ pub IsKept-dropped : (segments : List Segment) (used free used' : List Run) (seg
     → IsKept (contents (filter (λ other. not (has_id segment other)) segments) used' (dropped free segment)) (pages - (pages_in segment used + pages_in segment free)) (free_pages - pages_in segment free)
 IsKept-dropped segments used free used' segment pages free_pages kept left =
     record {
-      partition = IsPartition-dropped segments used free used' segment kept.partition left;
+      partition = partition_from _ (IsCounted-dropped segments used free used' segment (counts_of _ kept.partition) left);
       small = omega (arith, kept.small);
       size = omega (arith, kept.size, kept.by_segment segment, of_segments);
       free_count = omega (arith, kept.free_count, of_free);

@@ -3,6 +3,7 @@ pub mod Joins
 pub mod Found
 pub mod Picks
 pub mod Pages
+pub mod Counted
 pub mod Covered
 pub mod Carved
 pub mod Freed
@@ -12,3 +13,4 @@ pub mod Dropped
 pub mod Kept
 pub mod Room
 pub mod Taken
+pub mod Alone

@@ -12,20 +12,21 @@ use Rattle.span_heap.specs.declared.segment.Segment.{Segment}
 use Rattle.span_heap.specs.Run.{pages_of}
 use Rattle.span_heap.specs.Runs.{front_of, back_of}
 use Rattle.span_heap.specs.Heap.{Contents, contents, IsPartition, IsKept, size_of}
+use Rattle.span_heap.proofs.Counted.{counts_of}
 use Rattle.span_heap.proofs.Covered.{length-le-pages_of, sum_by-with, used_end-le-size, free_end-le-size}
 
 -- no more used spans than pages, and no more free runs
 pub room : (heap : Contents) (pages free_pages : ℕ) → IsKept heap pages free_pages → length heap.used + length heap.free ≤ pages
 room heap pages free_pages kept =
-    omega (arith, kept.whole, length-le-pages_of heap.used kept.partition.used_sized, length-le-pages_of heap.free kept.partition.free_sized)
+    omega (arith, kept.whole, length-le-pages_of heap.used (counts_of _ kept.partition).used_sized, length-le-pages_of heap.free (counts_of _ kept.partition).free_sized)
 
 -- a span that stops being used leaves its page for a free run
 pub room_to_free : (segments : List Segment) (used free used' : List Run) (span : Run) (pages free_pages : ℕ) → IsKept (contents segments used free) pages free_pages
     → IsPermutation used (span ∷ used') → length free < pages
 room_to_free segments used free used' span pages free_pages kept taken =
     omega (
-      arith, kept.whole, length-le-pages_of free kept.partition.free_sized, sum_by-with (λ x. x.pages) used used' span taken,
-      All-head (λ (x : Run). 1 ≤ x.pages) span used' (All-permutation (λ (x : Run). 1 ≤ x.pages) used (span ∷ used') taken kept.partition.used_sized)
+      arith, kept.whole, length-le-pages_of free (counts_of _ kept.partition).free_sized, sum_by-with (λ x. x.pages) used used' span taken,
+      All-head (λ (x : Run). 1 ≤ x.pages) span used' (All-permutation (λ (x : Run). 1 ≤ x.pages) used (span ∷ used') taken (counts_of _ kept.partition).used_sized)
     )
 
 -- a free run has a page that a used span can take
@@ -33,8 +34,8 @@ pub room_to_use : (segments : List Segment) (used free others : List Run) (run :
     → IsPermutation free (run ∷ others) → length used < pages
 room_to_use segments used free others run pages free_pages kept taken =
     omega (
-      arith, kept.whole, length-le-pages_of used kept.partition.used_sized, sum_by-with (λ x. x.pages) free others run taken,
-      All-head (λ (x : Run). 1 ≤ x.pages) run others (All-permutation (λ (x : Run). 1 ≤ x.pages) free (run ∷ others) taken kept.partition.free_sized)
+      arith, kept.whole, length-le-pages_of used (counts_of _ kept.partition).used_sized, sum_by-with (λ x. x.pages) free others run taken,
+      All-head (λ (x : Run). 1 ≤ x.pages) run others (All-permutation (λ (x : Run). 1 ≤ x.pages) free (run ∷ others) taken (counts_of _ kept.partition).free_sized)
     )
 
 -- a span of two pages has room for two
@@ -47,16 +48,16 @@ room_to_cut segments used free used' span pages free_pages kept taken long =
     )
   where
     others : All (λ (x : Run). 1 ≤ x.pages) used'
-    others = All-tail (λ (x : Run). 1 ≤ x.pages) span used' (All-permutation (λ (x : Run). 1 ≤ x.pages) used (span ∷ used') taken kept.partition.used_sized)
+    others = All-tail (λ (x : Run). 1 ≤ x.pages) span used' (All-permutation (λ (x : Run). 1 ≤ x.pages) used (span ∷ used') taken (counts_of _ kept.partition).used_sized)
 
 -- the end of a span is below 2^32
 pub end_fits : (heap : Contents) (span : Run) (pages free_pages : ℕ) → IsKept heap pages free_pages → Contains heap.used span → span.first + span.pages < 2 ^ 32
-end_fits heap span pages free_pages kept there = omega (arith, kept.small, kept.size, used_end-le-size heap kept.partition span there)
+end_fits heap span pages free_pages kept there = omega (arith, kept.small, kept.size, used_end-le-size heap (counts_of heap kept.partition) span there)
 
 -- and so is that of each free run
 pub ends_fit : (heap : Contents) (pages free_pages : ℕ) → IsKept heap pages free_pages → All (λ run. run.first + run.pages ≤ 2 ^ 32) heap.free
 ends_fit heap pages free_pages kept = λ k d within.
-    omega (arith, kept.small, kept.size, free_end-le-size heap kept.partition (get_or heap.free k d) (Contains-get_or heap.free k d within))
+    omega (arith, kept.small, kept.size, free_end-le-size heap (counts_of heap kept.partition) (get_or heap.free k d) (Contains-get_or heap.free k d within))
 
 -- a list that one more was pushed to, in another order
 pub pushed : (runs : List Run) (run : Run) → IsPermutation (run ∷ runs) (runs ++ run ∷ [])

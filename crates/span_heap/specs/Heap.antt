@@ -1,5 +1,5 @@
 -- What a heap is seen as, and what holds of it at every moment.
-use Rattle.std.specs.Prelude.{◌≡◌, ℕ, ◌+◌, ◌^◌, ◌<◌, ◌≤◌, Bool, ◌&&◌, ◌==◌, nat_lt, List, All, count_by, sum_by, filter}
+use Rattle.std.specs.Prelude.{◌≡◌, ℕ, ◌+◌, ◌^◌, ◌<◌, ◌≤◌, Bool, ◌&&◌, ◌==◌, nat_lt, if◌then◌else◌, List, All, Any, count_by, sum_by, filter}
 use Rattle.std.specs.List.{list_any}
 use Rattle.span_heap.specs.declared.run.Run.{Run}
 use Rattle.span_heap.specs.declared.segment.Segment.{Segment}
@@ -34,14 +34,19 @@ size_of segments = sum_by (λ segment. segment.pages) segments
 abbrev pub pages_in : ℕ → List Run → ℕ
 pages_in id runs = pages_of (filter (lies_in id) runs)
 
--- Each page of each segment lies in exactly one used span or free run, and these lie in the segments.
--- No two segments have one number, and no two free runs touch: at no place does one end or begin where another does.
+-- the run has a page, and lies within one of the segments
+abbrev pub LiesWithin : List Segment → Run → Type 0
+LiesWithin segments run =
+    (1 ≤ run.pages) × Any (λ segment. (segment.id ≡ run.segment) × (run.first + run.pages ≤ segment.pages)) segments
+
+-- Each page of each segment lies in exactly one used span or free run, and each of these lies within a segment.
+-- No two segments have one number. No two free runs touch: at no page does one begin or end where another begins or ends.
 pub record IsPartition (heap : Contents) : Type 0 where
-  pub once : (id page : ℕ) → count_by (has_page id page) heap.used + count_by (has_page id page) heap.free ≡ count_by (holds_page id page) heap.segments
+  pub once : (id page : ℕ) → count_by (has_page id page) heap.used + count_by (has_page id page) heap.free ≡ (if list_any (holds_page id page) heap.segments then 1 else 0)
   pub distinct : (id : ℕ) → count_by (has_id id) heap.segments ≤ 1
-  pub used_sized : All (λ run. 1 ≤ run.pages) heap.used
-  pub free_sized : All (λ run. 1 ≤ run.pages) heap.free
-  pub apart : (id page : ℕ) → count_by (ends_at id page) heap.free + count_by (begins_at id page) heap.free ≤ 1
+  pub used_within : All (LiesWithin heap.segments) heap.used
+  pub free_within : All (LiesWithin heap.segments) heap.free
+  pub apart : (id page : ℕ) → count_by (begins_at id page) heap.free + count_by (ends_at id page) heap.free ≤ 1
 
 -- what a heap keeps beside the partition: its two counts of pages, and that they add up in each segment and in all
 pub record IsKept (heap : Contents) (pages free_pages : ℕ) : Type 0 where

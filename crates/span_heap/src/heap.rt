@@ -64,7 +64,9 @@ impl Heap {
         ensures span { IfOk result (λ span. span ≡ record { segment = segment; first = 0; pages = pages }) }
         ensures segments { OnOk result (self.new.segments ≡ self.old.segments ++ record { id = segment; pages = pages } ∷ []) }
         ensures used { IfOk result (λ span. IsPermutation (span ∷ self.old.used) self.new.used) }
+        ensures has { IfOk result (Contains self.new.used) }
         ensures free { self.new.free ≡ self.old.free }
+        ensures none_free { All (λ run. run.segment ≢ segment) self.new.free }
         ensures err { OnErr result (self.new ≡ self.old) }
         ensures partition { IsPartition self.new }
     {
@@ -92,6 +94,7 @@ impl Heap {
         ensures span { result ≡ option_map (λ run. front_of run pages) (pick self.old.free pages slack) }
         ensures free { IfSome (pick self.old.free pages slack) (λ run. self.new.free ≡ carved self.old.free run pages) }
         ensures used { IfSome result (λ span. IsPermutation (span ∷ self.old.used) self.new.used) }
+        ensures has { IfSome result (Contains self.new.used) }
         ensures segments { self.new.segments ≡ self.old.segments }
         ensures none { IfNone result (self.new ≡ self.old) }
         ensures partition { IsPartition self.new }
@@ -109,6 +112,7 @@ impl Heap {
         requires within { (1 ≤ front) × (front < span.pages) }
         ensures spans { result ≡ (front_of span front, back_of span front) }
         ensures used { IsPermutation (result.0 ∷ result.1 ∷ self.old.used) (span ∷ self.new.used) }
+        ensures has { Contains self.new.used result.0 × Contains self.new.used result.1 }
         ensures free { self.new.free ≡ self.old.free }
         ensures segments { self.new.segments ≡ self.old.segments }
         ensures partition { IsPartition self.new }
@@ -126,6 +130,7 @@ impl Heap {
     pub fn free(&mut self, span: Span)
         requires { Contains self.old.used span }
         ensures free { self.new.free ≡ freed self.old.free span }
+        ensures alone { All (λ run. run.segment ≢ span.segment) self.old.free → self.new.free ≡ self.old.free ++ span ∷ [] }
         ensures used { IsPermutation self.old.used (span ∷ self.new.used) }
         ensures segments { self.new.segments ≡ self.old.segments }
         ensures partition { IsPartition self.new }

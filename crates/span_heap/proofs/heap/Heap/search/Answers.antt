@@ -7,6 +7,7 @@ use Rattle.span_heap.specs.declared.run.Run.{Run}
 use Rattle.span_heap.specs.Runs.{front_of, rest_of, carved}
 use Rattle.span_heap.specs.Pick.{pick}
 use Rattle.span_heap.specs.Heap.{contents}
+use Rattle.span_heap.proofs.Counted.{counts_of}
 use Rattle.span_heap.proofs.Covered.{is_run-once}
 use Rattle.span_heap.proofs.Room.{ends_fit, room_to_use, at_place, pushed}
 use Rattle.span_heap.proofs.Kept.{IsKept-carved}
@@ -58,7 +59,7 @@ returns-clause-free c =
     let h = c.self.inside in
     let found = rw (c.as_slice.ensures.value, slack_is) at c.in_ok-place.ensures in
     let picked : pick h.free.items c.args.pages c.args.slack ≡ Some c.carve.result = sym found.1 ∙ c.carve.ensures.run in
-    let once = is_run-once (contents h.segments.items h.used.items h.free.items) c.self.invariant.0.partition c.carve.result (omega (arith, c.requires.sized, pick_has_pages h.free.items c.args.pages c.args.slack c.carve.result picked)) in
+    let once = is_run-once (contents h.segments.items h.used.items h.free.items) (counts_of _ c.self.invariant.0.partition) c.carve.result (omega (arith, c.requires.sized, pick_has_pages h.free.items c.args.pages c.args.slack c.carve.result picked)) in
     rw (← c.self.view_is, picked)
     (c.carve.ensures.left ∙ ap (λ runs. runs ++ rest_of c.carve.result c.args.pages) (remove_run h.free.items c.in_ok-place.place c.carve.result found.0 c.carve.ensures.run once))
 
