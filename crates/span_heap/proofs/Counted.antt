@@ -1,12 +1,11 @@
 -- The partition by counts alone, as the lemmas take it.
-use Rattle.std.proofs.Common.{◌≡◌, ℕ, ◌+◌, ◌-◌, ◌<◌, ◌≤◌, Bool, true, false, ◌||◌, cond, eqb, List, [], ◌∷◌, length, get_or, refl, sym, ◌∙◌, ap, subst, arith, ◌⊎◌, inl, inr}
-use Rattle.std.specs.List.{count_by, sum_by, All, Any, Contains, list_any}
+use Rattle.std.proofs.Common.{◌≡◌, ℕ, ◌+◌, ◌-◌, ◌<◌, ◌≤◌, Bool, true, false, cond, eqb, List, [], ◌∷◌, get_or, refl, sym, ◌∙◌, ap, arith, inl, inr}
+use Rattle.std.specs.List.{count_by, All, list_any}
 use Rattle.std.proofs.lemmas.List.Sums.{sum_by-cons}
 use Rattle.std.proofs.lemmas.List.Folds.{Any-from_list_any}
-use Rattle.std.proofs.lemmas.List.Elements.{Contains-get_or, All-weaker}
+use Rattle.std.proofs.lemmas.List.Elements.{Contains-get_or}
 use Rattle.std.proofs.lemmas.Bool.{and_parts, and_from, eq-eqb, eqb-true, le-leb, lt-ltb, ltb-true, or_parts, cases_Bool}
 use Rattle.span_heap.specs.declared.run.Run.{Run}
-use Rattle.span_heap.specs.declared.segment.Segment.{Segment}
 use Rattle.span_heap.specs.Run.{has_page, begins_at, ends_at}
 use Rattle.span_heap.specs.Heap.{Contents, IsPartition, LiesWithin, has_id, holds_page}
 use Rattle.span_heap.proofs.Lists.{count_by-le-count_by, counted}
@@ -44,8 +43,9 @@ count_is_any p xs few false absent = count_of_absent p xs absent
 pub held_once : (heap : Contents) → ((id : ℕ) → count_by (has_id id) heap.segments ≤ 1) → (id page : ℕ) → count_by (holds_page id page) heap.segments ≤ 1
 held_once heap distinct id page =
     omega (
-      arith, distinct id,
-      count_by-le-count_by (λ _. Unit {0}) (holds_page id page) (has_id id) heap.segments (λ k d w. tt) (λ segment w e. (and_parts _ _ e).0)
+      arith,
+      distinct id,
+      count_by-le-count_by (λ _. Unit {0}) (holds_page id page) (has_id id) heap.segments (λ k d w. tt) (λ segment w e. (and_parts _ _ e).0),
     )
 
 -- a run has each page from its first up to its end
@@ -69,12 +69,12 @@ partition_from heap whole =
       once = λ id page. whole.once id page ∙ count_is_any (holds_page id page) heap.segments (held_once heap whole.distinct id page) (list_any (holds_page id page) heap.segments) refl;
       distinct = whole.distinct;
       used_within = λ k d within.
-        let run = get_or heap.used k d in
-        lies_within heap whole run (whole.used_sized k d within) (λ p e. omega (arith, counted p heap.used run (Contains-get_or heap.used k d within) e));
+          let run = get_or heap.used k d in
+          lies_within heap whole run (whole.used_sized k d within) (λ p e. omega (arith, counted p heap.used run (Contains-get_or heap.used k d within) e));
       free_within = λ k d within.
-        let run = get_or heap.free k d in
-        lies_within heap whole run (whole.free_sized k d within) (λ p e. omega (arith, counted p heap.free run (Contains-get_or heap.free k d within) e));
-      apart = λ id page. omega (arith, whole.apart id page)
+          let run = get_or heap.free k d in
+          lies_within heap whole run (whole.free_sized k d within) (λ p e. omega (arith, counted p heap.free run (Contains-get_or heap.free k d within) e));
+      apart = λ id page. omega (arith, whole.apart id page);
     }
 
 pub counts_of : (heap : Contents) → IsPartition heap → IsCounted heap
@@ -84,5 +84,5 @@ counts_of heap whole =
       distinct = whole.distinct;
       used_sized = λ k d within. (whole.used_within k d within).0;
       free_sized = λ k d within. (whole.free_within k d within).0;
-      apart = λ id page. omega (arith, whole.apart id page)
+      apart = λ id page. omega (arith, whole.apart id page);
     }

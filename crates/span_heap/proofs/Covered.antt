@@ -1,15 +1,15 @@
 -- What a partition says of single runs.
-use Rattle.std.proofs.Common.{◌≡◌, ℕ, ◌+◌, ◌-◌, ◌^◌, ◌<◌, ◌≤◌, Bool, true, false, cond, eqb, ltb, leb, List, [], ◌∷◌, ◌++◌, length, get_or, refl, sym, ◌∙◌, ap, arith}
-use Rattle.std.specs.List.{sum_by, count_by, filter, All, Contains}
+use Rattle.std.proofs.Common.{◌≡◌, ℕ, ◌+◌, ◌-◌, ◌<◌, ◌≤◌, Bool, true, false, cond, List, [], ◌∷◌, length, refl, sym, ◌∙◌, arith}
+use Rattle.std.specs.List.{sum_by, count_by, All, Contains}
 use Rattle.std.specs.List.Sorted.{IsPermutation}
 use Rattle.std.proofs.lemmas.List.Sums.{sum_by-cons}
 use Rattle.std.proofs.lemmas.List.Sorted.{sum_by-IsPermutation}
-use Rattle.std.proofs.lemmas.List.Elements.{All-head, All-tail, All-contains, Contains-get_or}
-use Rattle.std.proofs.lemmas.Bool.{and_parts, and_from, eqb-true, eq-eqb, ltb-true, lt-ltb, le-leb, cond-true}
+use Rattle.std.proofs.lemmas.List.Elements.{All-head, All-tail, All-contains}
+use Rattle.std.proofs.lemmas.Bool.{and_parts, and_from, eqb-true, ltb-true, lt-ltb, le-leb, cond-true}
 use Rattle.span_heap.specs.declared.run.Run.{Run}
 use Rattle.span_heap.specs.declared.segment.Segment.{Segment}
 use Rattle.span_heap.specs.Run.{lies_in, has_page, begins_at, ends_at, is_run, pages_of}
-use Rattle.span_heap.specs.Heap.{Contents, has_id, holds_page, size_of}
+use Rattle.span_heap.specs.Heap.{Contents, holds_page, size_of}
 use Rattle.span_heap.proofs.Counted.{IsCounted, has_page-within, held_once}
 use Rattle.span_heap.proofs.Lists.{count_by-le-count_by, counted}
 use Rattle.span_heap.proofs.Found.{is_run-true}
@@ -32,24 +32,25 @@ at_most_once heap whole id page = omega (arith, whole.once id page, held_once he
 pub begins-le-pages : (id page : ℕ) (runs : List Run) → All (λ run. 1 ≤ run.pages) runs → count_by (begins_at id page) runs ≤ count_by (has_page id page) runs
 begins-le-pages id page runs sized =
     count_by-le-count_by (λ run. 1 ≤ run.pages) (begins_at id page) (has_page id page) runs sized (λ run here begins.
-      let first : run.first ≡ page = eqb-true run.first page (and_parts (lies_in id run) _ begins).1 in
-      and_from _ _ (and_parts _ _ begins).0 (and_from _ _ (le-leb run.first page (omega arith)) (lt-ltb page (run.first + run.pages) (omega arith))))
+    let first : run.first ≡ page = eqb-true run.first page (and_parts (lies_in id run) _ begins).1 in
+    and_from _ _ (and_parts _ _ begins).0 (and_from _ _ (le-leb run.first page (omega arith)) (lt-ltb page (run.first + run.pages) (omega arith))))
 
 -- a run that ends at a page has the one before
 pub ends-le-pages : (id page : ℕ) (runs : List Run) → All (λ run. 1 ≤ run.pages) runs → count_by (ends_at id page) runs ≤ count_by (has_page id (page - 1)) runs
 ends-le-pages id page runs sized =
     count_by-le-count_by (λ run. 1 ≤ run.pages) (ends_at id page) (has_page id (page - 1)) runs sized (λ run here ends.
-      let end : run.first + run.pages ≡ page = eqb-true (run.first + run.pages) page (and_parts (lies_in id run) _ ends).1 in
-      and_from _ _ (and_parts _ _ ends).0 (and_from _ _ (le-leb run.first (page - 1) (omega arith)) (lt-ltb (page - 1) (run.first + run.pages) (omega arith))))
+    let end : run.first + run.pages ≡ page = eqb-true (run.first + run.pages) page (and_parts (lies_in id run) _ ends).1 in
+    and_from _ _ (and_parts _ _ ends).0 (and_from _ _ (le-leb run.first (page - 1) (omega arith)) (lt-ltb (page - 1) (run.first + run.pages) (omega arith))))
 
 -- each run has a page, so there are no more runs than pages
 pub length-le-pages_of : (runs : List Run) → All (λ run. 1 ≤ run.pages) runs → length runs ≤ pages_of runs
 length-le-pages_of [] sized = omega arith
 length-le-pages_of (run ∷ runs) sized =
     omega (
-      arith, sum_by-cons (λ (x : Run). x.pages) run runs,
+      arith,
+      sum_by-cons (λ (x : Run). x.pages) run runs,
       All-head (λ (x : Run). 1 ≤ x.pages) run runs sized,
-      length-le-pages_of runs (All-tail (λ (x : Run). 1 ≤ x.pages) run runs sized)
+      length-le-pages_of runs (All-tail (λ (x : Run). 1 ≤ x.pages) run runs sized),
     )
 
 -- a page that a segment holds is below the size of all segments
@@ -64,7 +65,7 @@ page_below_size id page [] some = absurd (omega arith)
 page_below_size id page (segment ∷ segments) some =
     rw (sum_by-cons (λ (x : Segment). x.pages) segment segments)
     (page_below_size_step id page segment segments (holds_page id page segment) refl (page_below_size id page segments)
-       (rw (sum_by-cons (λ (x : Segment). cond {A = ℕ} (holds_page id page x) 1 0) segment segments) at some))
+    (rw (sum_by-cons (λ (x : Segment). cond {A = ℕ} (holds_page id page x) 1 0) segment segments) at some))
 
 -- each run lies within its segment, so its end is no greater than the size of all segments
 end-le-size : (heap : Contents) → IsCounted heap → (run : Run) → 1 ≤ run.pages
@@ -86,7 +87,8 @@ free_end-le-size heap whole run there =
 pub is_run-once : (heap : Contents) → IsCounted heap → (run : Run) → 1 ≤ run.pages → count_by (is_run run) heap.free ≤ 1
 is_run-once heap whole run sized =
     omega (
-      arith, at_most_once heap whole run.segment run.first,
+      arith,
+      at_most_once heap whole run.segment run.first,
       count_by-le-count_by (λ _. Unit {0}) (is_run run) (has_page run.segment run.first) heap.free (λ k d w. tt) (λ other w same.
-        rw (is_run-true run other same) (has_page-within run run.first (omega arith) (omega arith)))
+          rw (is_run-true run other same) (has_page-within run run.first (omega arith) (omega arith))),
     )

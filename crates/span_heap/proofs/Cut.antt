@@ -1,6 +1,6 @@
 -- A used span is cut in two.
-use Rattle.std.proofs.Common.{◌≡◌, ℕ, ◌+◌, ◌-◌, ◌<◌, ◌≤◌, cond, List, ◌∷◌, arith, ◌∙◌}
-use Rattle.std.specs.List.{sum_by, All}
+use Rattle.std.proofs.Common.{◌≡◌, ℕ, ◌+◌, ◌<◌, ◌≤◌, cond, List, ◌∷◌, arith}
+use Rattle.std.specs.List.{sum_by}
 use Rattle.std.specs.List.Sorted.{IsPermutation}
 use Rattle.std.proofs.lemmas.List.Sums.{sum_by-cons}
 use Rattle.std.proofs.lemmas.List.Sorted.{All-permutation, sum_by-IsPermutation}
@@ -18,8 +18,12 @@ pub cut_sum : (f : Run → ℕ) (used used' : List Run) (span : Run) (n : ℕ) �
     → f span ≡ f (front_of span n) + f (back_of span n) → sum_by f used' ≡ sum_by f used
 cut_sum f used used' span n swapped cut =
     omega (
-      arith, cut, sum_by-IsPermutation f (front_of span n ∷ back_of span n ∷ used) (span ∷ used') swapped,
-      sum_by-cons f (front_of span n) (back_of span n ∷ used), sum_by-cons f (back_of span n) used, sum_by-cons f span used'
+      arith,
+      cut,
+      sum_by-IsPermutation f (front_of span n ∷ back_of span n ∷ used) (span ∷ used') swapped,
+      sum_by-cons f (front_of span n) (back_of span n ∷ used),
+      sum_by-cons f (back_of span n) used,
+      sum_by-cons f span used',
     )
 
 pub IsCounted-cut : (segments : List Segment) (used free used' : List Run) (span : Run) (n : ℕ) → IsCounted (contents segments used free)
@@ -27,12 +31,13 @@ pub IsCounted-cut : (segments : List Segment) (used free used' : List Run) (span
 IsCounted-cut segments used free used' span n whole swapped low high =
     record {
       once = λ id page. omega (
-        arith, whole.once id page,
-        cut_sum (λ x. cond {A = ℕ} (has_page id page x) 1 0) used used' span n swapped (cut_pages id page span n (omega arith))
+        arith,
+        whole.once id page,
+        cut_sum (λ x. cond {A = ℕ} (has_page id page x) 1 0) used used' span n swapped (cut_pages id page span n (omega arith)),
       );
       distinct = whole.distinct;
       used_sized = All-tail (λ x. 1 ≤ x.pages) span used' (All-permutation (λ x. 1 ≤ x.pages) (front_of span n ∷ back_of span n ∷ used) (span ∷ used') swapped
-        (All-cons (λ x. 1 ≤ x.pages) (front_of span n) (back_of span n ∷ used) low (All-cons (λ x. 1 ≤ x.pages) (back_of span n) used (omega (arith, high)) whole.used_sized)));
+          (All-cons (λ x. 1 ≤ x.pages) (front_of span n) (back_of span n ∷ used) low (All-cons (λ x. 1 ≤ x.pages) (back_of span n) used (omega (arith, high)) whole.used_sized)));
       free_sized = whole.free_sized;
-      apart = whole.apart
+      apart = whole.apart;
     }

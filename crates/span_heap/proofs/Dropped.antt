@@ -1,6 +1,6 @@
 -- A segment leaves, with all that lies in it.
-use Rattle.std.proofs.Common.{◌≡◌, ℕ, ◌+◌, ◌-◌, ◌<◌, ◌≤◌, Bool, true, false, not, ◌||◌, ◌&&◌, cond, eqb, ltb, leb, List, [], ◌∷◌, ◌++◌, arith, ◌∙◌, refl, sym, ap, subst, ◌⊎◌, inl, inr}
-use Rattle.std.specs.List.{sum_by, count_by, filter, All}
+use Rattle.std.proofs.Common.{◌≡◌, ℕ, ◌+◌, ◌≤◌, Bool, true, false, not, cond, eqb, List, arith, ◌∙◌, refl, sym, ap, inl, inr}
+use Rattle.std.specs.List.{sum_by, filter}
 use Rattle.std.specs.List.Sorted.{IsPermutation}
 use Rattle.std.proofs.lemmas.List.Sorted.{All-permutation, sum_by-IsPermutation}
 use Rattle.std.proofs.lemmas.List.Elements.{All-filter}
@@ -18,8 +18,8 @@ use Rattle.span_heap.proofs.Lists.{sum_by-filter, sum_by-same, sum_by-none}
 kept_one : (number segment id n : ℕ) → ((number ≡ id → ⊥) → n ≡ 0) → cond (not (eqb number segment)) n 0 ≡ cond (not (eqb id segment)) n 0
 kept_one number segment id n only =
     elim (cases_eq number id) [
-      inl same ↦ ap (λ k. cond {A = ℕ} (not (eqb k segment)) n 0) same
-    | inr other ↦ rw (only other) (sym (nothing (not (eqb number segment))) ∙ nothing (not (eqb id segment)))
+      | inl same ↦ ap (λ k. cond {A = ℕ} (not (eqb k segment)) n 0) same
+      | inr other ↦ rw (only other) (sym (nothing (not (eqb number segment))) ∙ nothing (not (eqb id segment)))
     ]
   where
     nothing : (b : Bool) → 0 ≡ cond {A = ℕ} b 0 0
@@ -56,14 +56,15 @@ IsCounted-dropped segments used free used' segment whole left =
         sum_by-IsPermutation (λ x. cond {A = ℕ} (has_page id page x) 1 0) (dropped used segment) used' left,
         sum_kept (λ x. cond {A = ℕ} (has_page id page x) 1 0) (λ x. x.segment) segment id (λ x other. ap (λ b. cond {A = ℕ} b 1 0) (and_left _ _ (ne_eqb x.segment id other))) used,
         sum_kept (λ x. cond {A = ℕ} (has_page id page x) 1 0) (λ x. x.segment) segment id (λ x other. ap (λ b. cond {A = ℕ} b 1 0) (and_left _ _ (ne_eqb x.segment id other))) free,
-        sum_kept (λ x. cond {A = ℕ} (holds_page id page x) 1 0) (λ x. x.id) segment id (λ x other. ap (λ b. cond {A = ℕ} b 1 0) (and_left _ _ (ne_eqb x.id id other))) segments
+        sum_kept (λ x. cond {A = ℕ} (holds_page id page x) 1 0) (λ x. x.id) segment id (λ x other. ap (λ b. cond {A = ℕ} b 1 0) (and_left _ _ (ne_eqb x.id id other))) segments,
       );
       distinct = λ id. omega (arith, whole.distinct id, sum_by-filter-le (λ x. cond {A = ℕ} (has_id id x) 1 0) (λ other. not (has_id segment other)) segments);
       used_sized = All-permutation (λ x. 1 ≤ x.pages) (dropped used segment) used' left (All-filter (λ run. not (lies_in segment run)) (λ x. 1 ≤ x.pages) used whole.used_sized);
       free_sized = All-filter (λ run. not (lies_in segment run)) (λ x. 1 ≤ x.pages) free whole.free_sized;
       apart = λ id page. omega (
-        arith, whole.apart id page,
+        arith,
+        whole.apart id page,
         sum_by-filter-le (λ x. cond {A = ℕ} (ends_at id page x) 1 0) (λ run. not (lies_in segment run)) free,
-        sum_by-filter-le (λ x. cond {A = ℕ} (begins_at id page x) 1 0) (λ run. not (lies_in segment run)) free
-      )
+        sum_by-filter-le (λ x. cond {A = ℕ} (begins_at id page x) 1 0) (λ run. not (lies_in segment run)) free,
+      );
     }

@@ -1,11 +1,11 @@
 -- A segment comes, as one used span.
-use Rattle.std.proofs.Common.{◌≡◌, ℕ, ◌+◌, ◌-◌, ◌<◌, ◌≤◌, Bool, true, false, ◌||◌, ◌&&◌, cond, eqb, ltb, leb, List, [], ◌∷◌, ◌++◌, arith, ◌∙◌, refl, sym, ap, subst, ◌⊎◌, inl, inr}
-use Rattle.std.specs.List.{sum_by, count_by, list_any, All}
+use Rattle.std.proofs.Common.{◌≡◌, ℕ, ◌+◌, ◌≤◌, Bool, true, false, cond, eqb, List, [], ◌∷◌, ◌++◌, arith, refl, subst}
+use Rattle.std.specs.List.{count_by}
 use Rattle.std.specs.List.Sorted.{IsPermutation}
-use Rattle.std.proofs.lemmas.List.Sums.{sum_by-cons, sum_by_push}
+use Rattle.std.proofs.lemmas.List.Sums.{sum_by_push}
 use Rattle.std.proofs.lemmas.List.Sorted.{All-permutation}
 use Rattle.std.proofs.lemmas.List.Elements.{All-cons}
-use Rattle.std.proofs.lemmas.Bool.{or_parts, eqb-true, cases_Bool}
+use Rattle.std.proofs.lemmas.Bool.{eqb-true}
 use Rattle.std.proofs.lemmas.Bool.Decides.{nat_tests}
 use Rattle.span_heap.specs.declared.run.Run.{Run}
 use Rattle.span_heap.specs.declared.segment.Segment.{Segment}
@@ -35,15 +35,18 @@ pub IsCounted-grown : (segments : List Segment) (used free used' : List Run) (se
 IsCounted-grown segments used free used' segment pages whole absent given sized =
     record {
       once = λ id page. omega (
-        arith, whole.once id page, whole_pages id page segment pages,
+        arith,
+        whole.once id page,
+        whole_pages id page segment pages,
         sum_by-given (λ x. cond {A = ℕ} (has_page id page x) 1 0) used used' (whole_of segment pages) given,
-        sum_by_push (λ x. cond {A = ℕ} (holds_page id page x) 1 0) segments (record { id = segment; pages = pages })
+        sum_by_push (λ x. cond {A = ℕ} (holds_page id page x) 1 0) segments (record { id = segment; pages = pages }),
       );
       distinct = λ id. omega (
-        arith, grown_distinct segments segment pages absent whole.distinct id (eqb segment id) refl,
-        sum_by_push (λ x. cond {A = ℕ} (has_id id x) 1 0) segments (record { id = segment; pages = pages })
+        arith,
+        grown_distinct segments segment pages absent whole.distinct id (eqb segment id) refl,
+        sum_by_push (λ x. cond {A = ℕ} (has_id id x) 1 0) segments (record { id = segment; pages = pages }),
       );
       used_sized = All-permutation (λ x. 1 ≤ x.pages) (whole_of segment pages ∷ used) used' given (All-cons (λ x. 1 ≤ x.pages) (whole_of segment pages) used sized whole.used_sized);
       free_sized = whole.free_sized;
-      apart = whole.apart
+      apart = whole.apart;
     }

@@ -1,5 +1,5 @@
 -- A freed span and the runs beside it.
-use Rattle.std.proofs.Common.{◌≡◌, ℕ, ◌+◌, ◌-◌, ◌<◌, ◌≤◌, Bool, true, false, not, ◌||◌, List, ◌∷◌, ◌++◌, arith}
+use Rattle.std.proofs.Common.{◌≡◌, ℕ, ◌+◌, ◌≤◌, true, false, not, List, arith}
 use Rattle.std.specs.List.{sum_by, filter}
 use Rattle.std.proofs.lemmas.Bool.{and_parts, and_right, eqb-true, ne_eqb}
 use Rattle.span_heap.specs.declared.run.Run.{Run}
@@ -16,8 +16,8 @@ ends_before_it span sized run ends =
 -- the runs that stay, those before the span and those behind it are all of them
 pub sum_of_beside : (f : Run → ℕ) (runs : List Run) (span : Run) → 1 ≤ span.pages
     → sum_by f (filter (λ run. not (is_beside span run)) runs)
-        + (sum_by f (filter (ends_at span.segment span.first) runs) + sum_by f (filter (begins_at span.segment (span.first + span.pages)) runs))
-      ≡ sum_by f runs
+    + (sum_by f (filter (ends_at span.segment span.first) runs) + sum_by f (filter (begins_at span.segment (span.first + span.pages)) runs))
+    ≡ sum_by f runs
 sum_of_beside f runs span sized =
     sum_of_three_parts f (ends_at span.segment span.first) (begins_at span.segment (span.first + span.pages)) (ends_before_it span sized) runs
 

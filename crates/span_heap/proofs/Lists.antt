@@ -1,6 +1,6 @@
 -- Sums and counts over lists.
-use Rattle.std.proofs.Common.{◌≡◌, ℕ, ◌+◌, ◌-◌, ◌<◌, ◌≤◌, zero, suc, Bool, true, false, not, ◌||◌, ◌&&◌, cond, List, [], ◌∷◌, ◌++◌, length, get_or, refl, sym, ◌∙◌, ap, subst, arith, rules, ◌⊎◌, inl, inr}
-use Rattle.std.specs.List.{sum_by, count_by, filter, Contains, remove, All, list_any}
+use Rattle.std.proofs.Common.{◌≡◌, ℕ, ◌+◌, ◌≤◌, Bool, true, false, not, ◌||◌, cond, List, [], ◌∷◌, length, get_or, refl, sym, ◌∙◌, ap, arith, ◌⊎◌, inl, inr}
+use Rattle.std.specs.List.{sum_by, count_by, filter, Contains, All}
 use Rattle.std.proofs.lemmas.List.Sums.{sum_by-cons, get_or-le-sum_by, length-filter}
 use Rattle.std.proofs.lemmas.List.Elements.{All-head, All-tail, filter_passes}
 
@@ -44,7 +44,7 @@ count_by-le-count_by P p q (x ∷ xs) all gives =
       sum_by-cons (λ y. cond (p y) 1 0) x xs,
       sum_by-cons (λ y. cond (q y) 1 0) x xs,
       cond-le-cond (p x) (q x) (gives x (All-head P x xs all)),
-      count_by-le-count_by P p q xs (All-tail P x xs all) gives
+      count_by-le-count_by P p q xs (All-tail P x xs all) gives,
     )
 
 -- an element that passes is counted
@@ -76,8 +76,11 @@ sum_of_three_parts f p q apart (x ∷ xs) =
     let rest = sum_of_three_parts f p q apart xs in
     let one = three_parts (f x) (p x) (q x) (apart x) in
     omega (
-      arith, rest, one, sum_by-cons f x xs,
+      arith,
+      rest,
+      one,
+      sum_by-cons f x xs,
       sum_of_filtered_head f (λ y. not (p y || q y)) x xs (not (p x || q x)),
       sum_of_filtered_head f p x xs (p x),
-      sum_of_filtered_head f q x xs (q x)
+      sum_of_filtered_head f q x xs (q x),
     )

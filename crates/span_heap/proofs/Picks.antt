@@ -1,10 +1,10 @@
 -- The run that a search takes, where one more run stands at the end.
-use Rattle.std.proofs.Common.{◌≡◌, ℕ, ◌+◌, ◌<◌, ◌≤◌, min, Bool, true, false, not, ◌&&◌, cond, ltb, leb, eqb, List, [], ◌∷◌, ◌++◌, reverse, length, take, get_or, slice_get, Option, Some, None, MatchOption, refl, sym, ◌∙◌, ap, subst, arith, ◌⊎◌, inl, inr}
+use Rattle.std.proofs.Common.{◌≡◌, ℕ, ◌+◌, ◌<◌, ◌≤◌, min, Bool, true, false, not, ◌&&◌, cond, ltb, eqb, List, [], ◌∷◌, ◌++◌, length, take, get_or, slice_get, Option, Some, None, MatchOption, refl, sym, ◌∙◌, ap, subst, arith, inl, inr}
 use Rattle.std.specs.List.{filter, find}
 use Rattle.std.proofs.lemmas.List.{reverse-append, take_more}
 use Rattle.std.proofs.lemmas.List.Elements.{filter-append}
 use Rattle.std.proofs.lemmas.Option.{slice_get-get_or}
-use Rattle.std.proofs.lemmas.Bool.{lt-ltb, le-ltb, le-leb, lt-leb, eq-eqb, ne_eqb, and_left, and_right, and_from, not_from_true, not_from_false, cases_lt}
+use Rattle.std.proofs.lemmas.Bool.{lt-ltb, le-leb, lt-leb, eq-eqb, ne_eqb, and_left, and_right, and_from, not_from_true, not_from_false, cases_lt}
 use Rattle.span_heap.specs.declared.run.Run.{Run}
 use Rattle.span_heap.specs.Pick.{fits, is_long, least_length, exact_length, latest, pick}
 
@@ -34,9 +34,9 @@ pick_by runs n slack length =
 
 pick_by_push : (runs : List Run) (run : Run) (n slack length : ℕ)
     → pick_by (runs ++ run ∷ []) n slack length
-      ≡ cond (ltb length 256)
-        (cond (fits n slack run && eqb run.pages length) (Some run) (latest (λ run. fits n slack run && eqb run.pages length) runs))
-        (cond (fits n slack run && is_long run) (Some run) (latest (λ run. fits n slack run && is_long run) runs))
+    ≡ cond (ltb length 256)
+    (cond (fits n slack run && eqb run.pages length) (Some run) (latest (λ run. fits n slack run && eqb run.pages length) runs))
+    (cond (fits n slack run && is_long run) (Some run) (latest (λ run. fits n slack run && is_long run) runs))
 pick_by_push runs run n slack length =
     rw (latest_push (λ run. fits n slack run && eqb run.pages length) runs run, latest_push (λ run. fits n slack run && is_long run) runs run) refl
 
@@ -45,15 +45,15 @@ pub takes_fitting : (runs : List Run) (run : Run) (n slack : ℕ) → fits n sla
     → (exact_length (runs ++ run ∷ []) n slack ≡ min run.pages 256) × (pick (runs ++ run ∷ []) n slack ≡ Some run)
 takes_fitting runs run n slack fit least =
     elim (cases_lt run.pages 256) [
-      inl short ↦
-        let exact = exact_length_push runs run n slack true (and_from _ _ fit (not_from_false (is_long run) (lt-leb 256 run.pages short))) in
-        let now : exact_length (runs ++ run ∷ []) n slack ≡ run.pages = omega (arith, exact) in
-        (omega (arith, now), ap (pick_by (runs ++ run ∷ []) n slack) now ∙ (pick_by_push runs run n slack run.pages ∙ rw (lt-ltb run.pages 256 short, fit, eq-eqb run.pages run.pages refl) refl))
-    | inr long ↦
-        let exact = exact_length_push runs run n slack false (and_right _ _ (not_from_true (is_long run) (le-leb 256 run.pages long))) in
-        let bound = least_length-bound (filter (λ x. fits n slack x && not (is_long x)) runs) in
-        let now : exact_length (runs ++ run ∷ []) n slack ≡ 256 = omega (arith, exact, bound) in
-        (omega (arith, now), ap (pick_by (runs ++ run ∷ []) n slack) now ∙ (pick_by_push runs run n slack 256 ∙ rw (fit, le-leb 256 run.pages long) refl))
+      | inl short ↦
+          let exact = exact_length_push runs run n slack true (and_from _ _ fit (not_from_false (is_long run) (lt-leb 256 run.pages short))) in
+          let now : exact_length (runs ++ run ∷ []) n slack ≡ run.pages = omega (arith, exact) in
+          (omega (arith, now), ap (pick_by (runs ++ run ∷ []) n slack) now ∙ (pick_by_push runs run n slack run.pages ∙ rw (lt-ltb run.pages 256 short, fit, eq-eqb run.pages run.pages refl) refl))
+      | inr long ↦
+          let exact = exact_length_push runs run n slack false (and_right _ _ (not_from_true (is_long run) (le-leb 256 run.pages long))) in
+          let bound = least_length-bound (filter (λ x. fits n slack x && not (is_long x)) runs) in
+          let now : exact_length (runs ++ run ∷ []) n slack ≡ 256 = omega (arith, exact, bound) in
+          (omega (arith, now), ap (pick_by (runs ++ run ∷ []) n slack) now ∙ (pick_by_push runs run n slack 256 ∙ rw (fit, le-leb 256 run.pages long) refl))
     ]
 
 -- the run does not fit: nothing changes
@@ -69,11 +69,12 @@ skips_unfitting runs run n slack unfit =
 pub skips_longer : (runs : List Run) (run : Run) (n slack : ℕ) → exact_length runs n slack < min run.pages 256
     → (exact_length (runs ++ run ∷ []) n slack ≡ exact_length runs n slack) × (pick (runs ++ run ∷ []) n slack ≡ pick runs n slack)
 skips_longer runs run n slack longer =
-    let now = same_length (fits n slack run && not (is_long run)) (exact_length_push runs run n slack _ refl) in
-    (now,
-     ap (pick_by (runs ++ run ∷ []) n slack) now
-     ∙ (pick_by_push runs run n slack (exact_length runs n slack)
-     ∙ rw (and_right (fits n slack run) _ (ne_eqb run.pages (exact_length runs n slack) (λ e. omega arith)), lt-ltb (exact_length runs n slack) 256 (omega arith)) refl))
+    let now = same_length (fits n slack run && not (is_long run)) (exact_length_push runs run n slack _ refl) in (
+      now,
+      ap (pick_by (runs ++ run ∷ []) n slack) now
+          ∙ (pick_by_push runs run n slack (exact_length runs n slack)
+          ∙ rw (and_right (fits n slack run) _ (ne_eqb run.pages (exact_length runs n slack) (λ e. omega arith)), lt-ltb (exact_length runs n slack) 256 (omega arith)) refl),
+    )
   where
     same_length : (exact : Bool) → exact_length (runs ++ run ∷ []) n slack ≡ min (exact_length runs n slack) (least_length (cond exact (run ∷ []) [])) → exact_length (runs ++ run ∷ []) n slack ≡ exact_length runs n slack
     same_length true e = omega (arith, e)
@@ -103,7 +104,7 @@ HasPicked-same runs others i n slack least (Some place) lengths picks picked =
 
 HasPicked-skips : (runs : List Run) (i n slack least : ℕ) (best : Option ℕ) (d : Run) → i < length runs
     → (exact_length (take i runs ++ get_or runs i d ∷ []) n slack ≡ exact_length (take i runs) n slack)
-        × (pick (take i runs ++ get_or runs i d ∷ []) n slack ≡ pick (take i runs) n slack)
+    × (pick (take i runs ++ get_or runs i d ∷ []) n slack ≡ pick (take i runs) n slack)
     → HasPicked runs i n slack least best → HasPicked runs (i + 1) n slack least best
 HasPicked-skips runs i n slack least best d within same picked =
     let P : List Run → Type 0 = λ xs. (least ≡ exact_length xs n slack) × MatchOption best (pick xs n slack ≡ None) (λ place. (place < i + 1) × (slice_get runs place ≡ pick xs n slack)) in

@@ -1,17 +1,14 @@
 -- There is room for one run per page, so a list never wants memory.
-use Rattle.std.proofs.Common.{◌≡◌, ℕ, ◌+◌, ◌-◌, ◌^◌, ◌<◌, ◌≤◌, List, [], ◌∷◌, ◌++◌, length, get_or, slice_get, Some, arith, ◌∙◌, sym, subst}
+use Rattle.std.proofs.Common.{◌≡◌, ℕ, ◌+◌, ◌^◌, ◌<◌, ◌≤◌, List, [], ◌∷◌, ◌++◌, length, get_or, slice_get, Some, arith, sym}
 use Rattle.std.specs.List.{All, Contains, remove}
 use Rattle.std.specs.List.Sorted.{IsPermutation}
-use Rattle.std.proofs.lemmas.List.{append_assoc, length_push}
-use Rattle.std.proofs.lemmas.List.Sums.{get_or-le-sum_by}
-use Rattle.std.proofs.lemmas.List.Sorted.{IsPermutation-append_comm, IsPermutation-cons, IsPermutation-trans, IsPermutation-remove, IsPermutation-sym, length_permutation, All-permutation, Contains-permutation}
+use Rattle.std.proofs.lemmas.List.{append_assoc}
+use Rattle.std.proofs.lemmas.List.Sorted.{IsPermutation-append_comm, IsPermutation-cons, IsPermutation-trans, IsPermutation-remove, All-permutation}
 use Rattle.std.proofs.lemmas.List.Elements.{All-head, All-tail, Contains-get_or}
 use Rattle.std.proofs.lemmas.Option.{get_or_from_slice_get}
 use Rattle.span_heap.specs.declared.run.Run.{Run}
 use Rattle.span_heap.specs.declared.segment.Segment.{Segment}
-use Rattle.span_heap.specs.Run.{pages_of}
-use Rattle.span_heap.specs.Runs.{front_of, back_of}
-use Rattle.span_heap.specs.Heap.{Contents, contents, IsPartition, IsKept, size_of}
+use Rattle.span_heap.specs.Heap.{Contents, contents, IsKept}
 use Rattle.span_heap.proofs.Counted.{counts_of}
 use Rattle.span_heap.proofs.Covered.{length-le-pages_of, sum_by-with, used_end-le-size, free_end-le-size}
 
@@ -25,8 +22,11 @@ pub room_to_free : (segments : List Segment) (used free used' : List Run) (span 
     → IsPermutation used (span ∷ used') → length free < pages
 room_to_free segments used free used' span pages free_pages kept taken =
     omega (
-      arith, kept.whole, length-le-pages_of free (counts_of _ kept.partition).free_sized, sum_by-with (λ x. x.pages) used used' span taken,
-      All-head (λ (x : Run). 1 ≤ x.pages) span used' (All-permutation (λ (x : Run). 1 ≤ x.pages) used (span ∷ used') taken (counts_of _ kept.partition).used_sized)
+      arith,
+      kept.whole,
+      length-le-pages_of free (counts_of _ kept.partition).free_sized,
+      sum_by-with (λ x. x.pages) used used' span taken,
+      All-head (λ (x : Run). 1 ≤ x.pages) span used' (All-permutation (λ (x : Run). 1 ≤ x.pages) used (span ∷ used') taken (counts_of _ kept.partition).used_sized),
     )
 
 -- a free run has a page that a used span can take
@@ -34,8 +34,11 @@ pub room_to_use : (segments : List Segment) (used free others : List Run) (run :
     → IsPermutation free (run ∷ others) → length used < pages
 room_to_use segments used free others run pages free_pages kept taken =
     omega (
-      arith, kept.whole, length-le-pages_of used (counts_of _ kept.partition).used_sized, sum_by-with (λ x. x.pages) free others run taken,
-      All-head (λ (x : Run). 1 ≤ x.pages) run others (All-permutation (λ (x : Run). 1 ≤ x.pages) free (run ∷ others) taken (counts_of _ kept.partition).free_sized)
+      arith,
+      kept.whole,
+      length-le-pages_of used (counts_of _ kept.partition).used_sized,
+      sum_by-with (λ x. x.pages) free others run taken,
+      All-head (λ (x : Run). 1 ≤ x.pages) run others (All-permutation (λ (x : Run). 1 ≤ x.pages) free (run ∷ others) taken (counts_of _ kept.partition).free_sized),
     )
 
 -- a span of two pages has room for two
@@ -43,8 +46,10 @@ pub room_to_cut : (segments : List Segment) (used free used' : List Run) (span :
     → IsPermutation used (span ∷ used') → 2 ≤ span.pages → length used' + 1 < pages
 room_to_cut segments used free used' span pages free_pages kept taken long =
     omega (
-      arith, kept.whole, sum_by-with (λ x. x.pages) used used' span taken,
-      length-le-pages_of used' others
+      arith,
+      kept.whole,
+      sum_by-with (λ x. x.pages) used used' span taken,
+      length-le-pages_of used' others,
     )
   where
     others : All (λ (x : Run). 1 ≤ x.pages) used'
@@ -69,8 +74,8 @@ pub cut_in_two : (used used' : List Run) (span front back : Run) → IsPermutati
 cut_in_two used used' span front back taken =
     rw append_assoc
     (IsPermutation-trans (front ∷ back ∷ used) (front ∷ back ∷ span ∷ used') (span ∷ (used' ++ (front ∷ back ∷ [])))
-     (IsPermutation-cons front (back ∷ used) (back ∷ span ∷ used') (IsPermutation-cons back used (span ∷ used') taken))
-     (IsPermutation-append_comm (front ∷ back ∷ []) (span ∷ used')))
+    (IsPermutation-cons front (back ∷ used) (back ∷ span ∷ used') (IsPermutation-cons back used (span ∷ used') taken))
+    (IsPermutation-append_comm (front ∷ back ∷ []) (span ∷ used')))
 
 -- a run at a place, and the others
 pub at_place : (runs : List Run) (place : ℕ) (run : Run) → slice_get runs place ≡ Some run → place < length runs → IsPermutation runs (run ∷ remove runs place)

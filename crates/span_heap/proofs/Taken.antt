@@ -1,10 +1,10 @@
 -- The run that a search takes out of the list.
-use Rattle.std.proofs.Common.{◌≡◌, ℕ, zero, suc, ◌+◌, ◌-◌, ◌<◌, ◌≤◌, Bool, true, false, not, ◌&&◌, cond, ltb, eqb, List, [], ◌∷◌, ◌++◌, reverse, length, get_or, slice_get, take, drop, Option, Some, None, refl, sym, ◌∙◌, ap, subst, arith, ◌⊎◌, inl, inr}
-use Rattle.std.specs.List.{filter, find, remove, count_by, sum_by, Contains}
+use Rattle.std.proofs.Common.{◌≡◌, ℕ, zero, suc, ◌+◌, ◌<◌, ◌≤◌, Bool, true, false, not, ◌&&◌, cond, ltb, eqb, List, [], ◌∷◌, reverse, length, get_or, slice_get, Some, None, refl, sym, ◌∙◌, ap, subst, arith}
+use Rattle.std.specs.List.{filter, find, remove, count_by}
 use Rattle.std.proofs.lemmas.List.Sums.{sum_by-cons}
 use Rattle.std.proofs.lemmas.List.Elements.{Contains-get_or}
 use Rattle.std.proofs.lemmas.Option.{get_or_from_slice_get}
-use Rattle.std.proofs.lemmas.Bool.{and_parts, leb-true, cases_Bool, cond-true, cond-false}
+use Rattle.std.proofs.lemmas.Bool.{and_parts, leb-true}
 use Rattle.span_heap.specs.declared.run.Run.{Run}
 use Rattle.span_heap.specs.Run.{is_run}
 use Rattle.span_heap.specs.Pick.{fits, is_long, exact_length, latest, pick}
@@ -42,6 +42,7 @@ filter_of_none p (x ∷ xs) none = go (p x) refl (filter_of_none p xs)
   where
     sum : cond {A = ℕ} (p x) 1 0 + count_by p xs ≡ 0
     sum = sym (sum_by-cons (λ y. cond {A = ℕ} (p y) 1 0) x xs) ∙ none
+
     go : (b : Bool) → p x ≡ b → (count_by p xs ≡ 0 → filter (λ y. not (p y)) xs ≡ xs) → cond (not b) (x ∷ filter (λ y. not (p y)) xs) (filter (λ y. not (p y)) xs) ≡ x ∷ xs
     go true is rest = absurd (omega (arith, sum, one_if (p x) is))
     go false is rest = ap (λ ys. x ∷ ys) (rest (omega (arith, sum)))
@@ -59,6 +60,7 @@ remove_only p (x ∷ xs) (suc i) d within passes once = go (p x) refl (remove_on
   where
     sum : cond {A = ℕ} (p x) 1 0 + count_by p xs ≡ count_by p (x ∷ xs)
     sum = sym (sum_by-cons (λ y. cond {A = ℕ} (p y) 1 0) x xs)
+
     go : (b : Bool) → p x ≡ b → (count_by p xs ≤ 1 → remove xs i ≡ filter (λ y. not (p y)) xs) → x ∷ remove xs i ≡ cond (not b) (x ∷ filter (λ y. not (p y)) xs) (filter (λ y. not (p y)) xs)
     go true is rest = absurd (omega (arith, sum, once, one_if (p x) is, counted p xs (get_or xs i d) (Contains-get_or xs i d (omega arith)) passes))
     go false is rest = ap (λ ys. x ∷ ys) (rest (omega (arith, sum, once)))

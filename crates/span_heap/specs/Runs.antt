@@ -33,7 +33,7 @@ joined runs span =
     record {
       segment = span.segment;
       first = span.first - pages_before runs span;
-      pages = pages_before runs span + span.pages + pages_behind runs span
+      pages = pages_before runs span + span.pages + pages_behind runs span;
     }
 
 -- after a span was freed: the runs beside it leave, and the joined run is appended

@@ -67,7 +67,10 @@ fn pages_before(runs: &[Run], span: &Run) -> u32
     requires { pages_of runs.now < 2 ^ 32 }
     ensures { result ≡ pages_before runs.now span.now }
 {
-    runs.iter().filter(|run| run.is_before(span)).map(|run| run.pages).sum()
+    runs.iter()
+        .filter(|run| run.is_before(span))
+        .map(|run| run.pages)
+        .sum()
 }
 
 /// The pages of the run that begins where the span ends.
@@ -75,7 +78,10 @@ fn pages_behind(runs: &[Run], span: &Run) -> u32
     requires { pages_of runs.now < 2 ^ 32 }
     ensures { result ≡ pages_behind runs.now span.now }
 {
-    runs.iter().filter(|run| run.is_behind(span)).map(|run| run.pages).sum()
+    runs.iter()
+        .filter(|run| run.is_behind(span))
+        .map(|run| run.pages)
+        .sum()
 }
 
 /// Removes the runs directly before the span and behind it.

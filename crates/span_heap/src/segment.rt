@@ -27,7 +27,10 @@ pub(crate) fn pages_in(runs: &[Run], segment: u64) -> u32
     requires { pages_of runs.now < 2 ^ 32 }
     ensures { result ≡ pages_in segment runs.now }
 {
-    runs.iter().filter(|run| run.segment == segment).map(|run| run.pages).sum()
+    runs.iter()
+        .filter(|run| run.segment == segment)
+        .map(|run| run.pages)
+        .sum()
 }
 
 /// Removes the runs of one segment.

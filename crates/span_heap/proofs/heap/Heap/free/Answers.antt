@@ -11,8 +11,10 @@ pub join-requires-clause-room : goal.join-requires-clause-room
 join-requires-clause-room c =
     let h = c.self.inside in
     omega (
-      arith, h.free.ok.0, c.self.invariant.2,
-      room_to_free h.segments.items h.used.items h.free.items c.take_out.new.spans.items c.span.inside.run h.pages h.free_pages c.self.invariant.0 c.take_out.ensures.rest
+      arith,
+      h.free.ok.0,
+      c.self.invariant.2,
+      room_to_free h.segments.items h.used.items h.free.items c.take_out.new.spans.items c.span.inside.run h.pages h.free_pages c.self.invariant.0 c.take_out.ensures.rest,
     )
 
 pub join-requires-clause-begins : goal.join-requires-clause-begins
@@ -22,10 +24,11 @@ join-requires-clause-begins c =
 
 pub invariant_of-self : goal.invariant_of-self
 invariant_of-self c =
-    let h = c.self.inside in
-    (rw c.join.ensures.joined (IsKept-freed h.segments.items h.used.items h.free.items c.take_out.new.spans.items c.span.inside.run h.pages h.free_pages c.self.invariant.0 c.take_out.ensures.rest),
-     omega (arith, c.take_out.ensures.capacity, c.self.invariant.1),
-     omega (arith, c.join.ensures.capacity, c.self.invariant.2))
+    let h = c.self.inside in (
+      rw c.join.ensures.joined (IsKept-freed h.segments.items h.used.items h.free.items c.take_out.new.spans.items c.span.inside.run h.pages h.free_pages c.self.invariant.0 c.take_out.ensures.rest),
+      omega (arith, c.take_out.ensures.capacity, c.self.invariant.1),
+      omega (arith, c.join.ensures.capacity, c.self.invariant.2),
+    )
 
 pub returns-clause-partition : goal.returns-clause-partition
 returns-clause-partition c =

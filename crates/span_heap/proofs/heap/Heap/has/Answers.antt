@@ -1,4 +1,3 @@
-use Rattle.std.proofs.Common.{rules}
 use Rattle.span_heap.proofs.Found.{stands_there}
 use Rattle.span_heap.proofs.heap.Heap.has.Goals as goal
 

@@ -1,10 +1,6 @@
-use Rattle.std.proofs.Common.{◌≡◌, ℕ, ◌+◌, ◌++◌, ◌-◌, ◌<◌, ◌≤◌, length, slice_get, get_or, Some, sym, ◌∙◌, ap, subst, arith}
+use Rattle.std.proofs.Common.{◌≡◌, ℕ, ◌+◌, ◌++◌, ◌-◌, Some, sym, ◌∙◌, ap, arith}
 use Rattle.std.specs.List.{remove}
-use Rattle.std.specs.Option.{IfSome}
-use Rattle.std.proofs.lemmas.List.Elements.{All-get_or}
-use Rattle.std.proofs.lemmas.Option.{get_or_from_slice_get}
-use Rattle.span_heap.specs.declared.run.Run.{Run}
-use Rattle.span_heap.specs.Runs.{front_of, rest_of, carved}
+use Rattle.span_heap.specs.Runs.{front_of, rest_of}
 use Rattle.span_heap.specs.Pick.{pick}
 use Rattle.span_heap.specs.Heap.{contents}
 use Rattle.span_heap.proofs.Counted.{counts_of}
@@ -24,9 +20,11 @@ push_reserved-requires c =
     let h = c.self.inside in
     let found = rw c.as_slice.ensures.value at c.in_ok-place.ensures in
     omega (
-      arith, h.used.ok.0, c.self.invariant.1,
+      arith,
+      h.used.ok.0,
+      c.self.invariant.1,
       room_to_use h.segments.items h.used.items h.free.items (remove h.free.items c.in_ok-place.place) c.carve.result h.pages h.free_pages c.self.invariant.0
-        (at_place h.free.items c.in_ok-place.place c.carve.result c.carve.ensures.run found.0)
+          (at_place h.free.items c.in_ok-place.place c.carve.result c.carve.ensures.run found.0),
     )
 
 slack_is : (n slack : ℕ) → n + slack - n ≡ slack
@@ -38,8 +36,8 @@ overflow_sub-self c =
     let found = rw (c.as_slice.ensures.value, slack_is) at c.in_ok-place.ensures in
     let picked : pick h.free.items c.args.pages c.args.slack ≡ Some c.carve.result = sym found.1 ∙ c.carve.ensures.run in
     let kept = IsKept-carved h.segments.items h.used.items h.free.items (remove h.free.items c.in_ok-place.place) _ c.carve.result c.args.pages h.pages h.free_pages c.self.invariant.0
-      (at_place h.free.items c.in_ok-place.place c.carve.result c.carve.ensures.run found.0)
-      (pushed h.used.items (front_of c.carve.result c.args.pages)) c.requires.sized (pick_has_pages h.free.items c.args.pages c.args.slack c.carve.result picked) in
+    (at_place h.free.items c.in_ok-place.place c.carve.result c.carve.ensures.run found.0)
+    (pushed h.used.items (front_of c.carve.result c.args.pages)) c.requires.sized (pick_has_pages h.free.items c.args.pages c.args.slack c.carve.result picked) in
     kept.0
 
 pub invariant_of-self : goal.invariant_of-self
@@ -48,11 +46,12 @@ invariant_of-self c =
     let found = rw (c.as_slice.ensures.value, slack_is) at c.in_ok-place.ensures in
     let picked : pick h.free.items c.args.pages c.args.slack ≡ Some c.carve.result = sym found.1 ∙ c.carve.ensures.run in
     let kept = IsKept-carved h.segments.items h.used.items h.free.items (remove h.free.items c.in_ok-place.place) _ c.carve.result c.args.pages h.pages h.free_pages c.self.invariant.0
-      (at_place h.free.items c.in_ok-place.place c.carve.result c.carve.ensures.run found.0)
-      (pushed h.used.items (front_of c.carve.result c.args.pages)) c.requires.sized (pick_has_pages h.free.items c.args.pages c.args.slack c.carve.result picked) in
-    (rw (c.push_reserved.ensures.items, c.front-run.ensures, c.carve.ensures.left) kept.1,
-     omega (arith, c.push_reserved.ensures.capacity, c.self.invariant.1),
-     omega (arith, c.carve.ensures.capacity, c.self.invariant.2))
+    (at_place h.free.items c.in_ok-place.place c.carve.result c.carve.ensures.run found.0)
+    (pushed h.used.items (front_of c.carve.result c.args.pages)) c.requires.sized (pick_has_pages h.free.items c.args.pages c.args.slack c.carve.result picked) in (
+      rw (c.push_reserved.ensures.items, c.front-run.ensures, c.carve.ensures.left) kept.1,
+      omega (arith, c.push_reserved.ensures.capacity, c.self.invariant.1),
+      omega (arith, c.carve.ensures.capacity, c.self.invariant.2),
+    )
 
 pub returns-clause-free : goal.returns-clause-free
 returns-clause-free c =
