@@ -14,3 +14,4 @@ pub mod Kept
 pub mod Room
 pub mod Taken
 pub mod Alone
+pub mod Fitting

@@ -11,6 +11,7 @@ pub record Contents : Type 0 where
   pub used : List Run
   pub free : List Run
 
+-- what a heap is seen as, from its three lists
 abbrev pub contents : List Segment → List Run → List Run → Contents
 contents segments used free = record { segments = segments; used = used; free = free }
 

@@ -10,7 +10,7 @@ fits n slack run = nat_le n run.pages && nat_le run.pages (n + slack)
 abbrev pub is_long : Run → Bool
 is_long run = nat_le 256 run.pages
 
--- the least length that one of the runs has, or 256 where none has fewer pages
+-- the least length that one of the runs has, or 256 where that is less
 abbrev pub least_length : List Run → ℕ
 least_length [] = 256
 least_length (run ∷ runs) = min run.pages (least_length runs)

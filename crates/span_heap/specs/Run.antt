@@ -1,3 +1,4 @@
+-- A run of pages, and where it lies.
 use Rattle.std.specs.Prelude.{ℕ, ◌+◌, Bool, ◌&&◌, ◌||◌, ◌==◌, nat_le, nat_lt, List, sum_by}
 use Rattle.span_heap.specs.declared.run.Run.{Run}
 

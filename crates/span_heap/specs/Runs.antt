@@ -1,4 +1,4 @@
--- The free runs of a heap are a list, oldest first.
+-- How the free runs of a heap change. They are a list, the oldest first.
 use Rattle.std.specs.Prelude.{ℕ, ◌+◌, ◌-◌, not, nat_lt, List, [], ◌∷◌, ◌++◌, filter, if◌then◌else◌}
 use Rattle.span_heap.specs.declared.run.Run.{Run}
 use Rattle.span_heap.specs.Run.{lies_in, begins_at, ends_at, is_beside, is_run, pages_of}
@@ -19,15 +19,15 @@ rest_of run n = if nat_lt n run.pages then back_of run n ∷ [] else []
 abbrev pub carved : List Run → Run → ℕ → List Run
 carved runs run n = filter (λ other. not (is_run run other)) runs ++ rest_of run n
 
--- the pages of the run that ends where the span begins
+-- how many pages the run has that ends where the span begins, or 0 where there is none
 abbrev pub pages_before : List Run → Run → ℕ
 pages_before runs span = pages_of (filter (ends_at span.segment span.first) runs)
 
--- the pages of the run that begins where the span ends
+-- how many pages the run has that begins where the span ends, or 0 where there is none
 abbrev pub pages_behind : List Run → Run → ℕ
 pages_behind runs span = pages_of (filter (begins_at span.segment (span.first + span.pages)) runs)
 
--- the span with the free pages directly before it and directly behind it
+-- the span with the free pages directly before it and directly behind it, as one run
 abbrev pub joined : List Run → Run → Run
 joined runs span =
     record {

@@ -1,23 +1,26 @@
-ghost use Rattle.std.specs.Prelude.{◌≡◌, ◌+◌, ◌-◌, ◌^◌, ◌<◌, ◌≤◌, ◌↔◌, ◌≢◌, not, [], ◌∷◌, ◌++◌, All, Contains, IsPermutation, IsTrue, IsFalse, IfOk, IfSome, IfNone, OnOk, OnErr, filter};
+ghost use Rattle.std.specs.Prelude.{◌≡◌, ◌+◌, ◌-◌, ◌^◌, ◌<◌, ◌≤◌, ◌↔◌, ◌≢◌, not, [], ◌∷◌, ◌++◌, All, Contains, IsPermutation, IsTrue, IsFalse, IfOk, IfSome, IfNone, IsNone, OnOk, OnErr, filter};
 ghost use Rattle.std.specs.Option.{option_map};
 ghost use Rattle.span_heap.specs.Run.{pages_of};
 ghost use Rattle.span_heap.specs.Runs.{front_of, back_of, carved, freed, dropped};
-ghost use Rattle.span_heap.specs.Pick.{pick};
+ghost use Rattle.span_heap.specs.Pick.{fits, pick};
 ghost use Rattle.span_heap.specs.Heap.{contents, IsPartition, has_id, has_segment, size_of, pages_in};
 
 use crate::free_runs::{carve, join, pick};
 use crate::run::{Run, Runs};
-use crate::segment::{Segment, make_room, pages_in, remove_runs, remove_segment};
+use crate::run_list::{make_room, pages_in, remove_runs};
+use crate::segment::{Segment, remove_segment};
 use crate::span::Span;
 use crate::used_spans::take_out;
 use machine::NoMemory;
 use std::alloc::Global;
 use std::marker::Model;
 
-/// Segments, cut into used spans and free runs.
+/// Segments of pages, cut into used spans and free runs.
 ///
 /// Each page of each segment lies in exactly one used span or free run, and no two free runs touch.
-/// Only `new`, `grow` and `runs` take memory.
+/// Only `new`, `grow` and `runs` take memory, since a segment comes with room for one span and one
+/// run per page. `free_pages` reads a count; each other call goes along the lists of segments, used
+/// spans or free runs.
 #[derive(Debug, Drop)]
 pub struct Heap {
     segments: Vec<Segment>,
@@ -40,7 +43,7 @@ impl Model for Heap {
 }
 
 impl Heap {
-    /// A heap with no segment.
+    /// A heap with no segment. The one error is want of memory.
     pub fn new(alloc: Global) -> Result<Heap, NoMemory>
         ensures { IfOk result (λ heap. heap ≡ contents [] [] []) }
     {
@@ -53,14 +56,15 @@ impl Heap {
         })
     }
 
-    /// Adds a segment of 1 to 65,536 pages under a number that no segment of the heap has, and
-    /// answers it whole as one used span. All pages of the heap together stay below 2^32.
+    /// Adds a segment and answers it whole, as one used span. `NoMemory` leaves the heap as before.
+    ///
+    /// Conditions: no segment of the heap has this number, it has 1 to 65,536 pages, and all pages
+    /// of the heap together stay below 2^32.
     pub fn grow(&mut self, _alloc: Global, segment: u64, pages: u32) -> Result<Span, NoMemory>
         requires fresh { IsFalse (has_segment self.old.segments segment) }
         requires sized { (1 ≤ pages) × (pages ≤ 65536) }
         requires small { size_of self.old.segments + pages < 2 ^ 32 }
 
-        // The whole segment is one used span.
         ensures span { IfOk result (λ span. span ≡ record { segment = segment; first = 0; pages = pages }) }
         ensures segments { OnOk result (self.new.segments ≡ self.old.segments ++ record { id = segment; pages = pages } ∷ []) }
         ensures used { IfOk result (λ span. IsPermutation (span ∷ self.old.used) self.new.used) }
@@ -85,9 +89,12 @@ impl Heap {
         Ok(Span { run })
     }
 
-    /// Takes the front of the latest free run of the least length from `pages` to
-    /// `pages + slack`, where all lengths from 256 on count as one; what is left of the run is
-    /// appended to the free runs. `None` comes exactly where no run has such a length.
+    /// Takes a free run of at least `pages` pages and at most `slack` more, uses its first `pages`
+    /// pages, and appends what is left of it to the free runs. It is the latest run of the least
+    /// length that fits, where all lengths from 256 on count as one. `None` comes exactly where no
+    /// run fits, and then nothing changed.
+    ///
+    /// Conditions: `pages` is at least 1, and `pages + slack` fits u32.
     pub fn search(&mut self, pages: u32, slack: u32) -> Option<Span>
         requires sized { 1 ≤ pages }
         requires small { pages + slack < 2 ^ 32 }
@@ -97,6 +104,7 @@ impl Heap {
         ensures has { IfSome result (Contains self.new.used) }
         ensures segments { self.new.segments ≡ self.old.segments }
         ensures none { IfNone result (self.new ≡ self.old) }
+        ensures none_fits { IsNone result ↔ All (λ run. IsFalse (fits pages slack run)) self.old.free }
         ensures partition { IsPartition self.new }
     {
         let place = pick(self.free.as_slice(), pages, pages + slack)?;
@@ -106,7 +114,9 @@ impl Heap {
         Some(Span { run })
     }
 
-    /// Cuts a used span in two behind its first `front` pages.
+    /// Cuts a used span in two, behind its first `front` pages.
+    ///
+    /// Conditions: the heap has the span, and `front` is from 1 to one below its pages.
     pub fn split(&mut self, span: Span, front: u32) -> (Span, Span)
         requires used { Contains self.old.used span }
         requires within { (1 ≤ front) × (front < span.pages) }
@@ -125,8 +135,10 @@ impl Heap {
         (Span { run: front }, Span { run: back })
     }
 
-    /// Frees a used span: it is joined with the free runs directly before it and behind it, and
-    /// the joined run is the latest.
+    /// Frees a used span. It is joined with the free runs directly before it and directly behind
+    /// it, and the joined run is the latest.
+    ///
+    /// Condition: the heap has the span.
     pub fn free(&mut self, span: Span)
         requires { Contains self.old.used span }
         ensures free { self.new.free ≡ freed self.old.free span }
@@ -143,6 +155,8 @@ impl Heap {
 
     /// Drops a segment with its free runs and its used spans, and answers how many of its pages
     /// were used.
+    ///
+    /// Condition: a segment of the heap has this number.
     pub fn drop_segment(&mut self, segment: u64) -> u32
         requires { IsTrue (has_segment self.old.segments segment) }
         ensures answer { result ≡ pages_in segment self.old.used }
@@ -161,7 +175,8 @@ impl Heap {
         used
     }
 
-    /// Whether this is one of the used spans.
+    /// Whether this is one of the used spans. A span is known by its segment, its first page and
+    /// its pages.
     pub fn has(&self, span: &Span) -> bool
         ensures answer { IsTrue result ↔ Contains self.now.used span.now }
         ensures partition { IsPartition self.now }
@@ -177,6 +192,8 @@ impl Heap {
     }
 
     /// Whether no used span lies in this segment.
+    ///
+    /// Condition: a segment of the heap has this number.
     pub fn all_free(&self, segment: u64) -> bool
         requires { IsTrue (has_segment self.now.segments segment) }
         ensures { IsTrue result ↔ All (λ run. run.segment ≢ segment) self.now.used }
@@ -191,7 +208,7 @@ impl Heap {
         u64::from(self.free_pages)
     }
 
-    /// The free runs, the oldest first.
+    /// The free runs as they are now, the oldest first. The one error is want of memory.
     pub fn runs(&self, alloc: Global) -> Result<Runs, NoMemory>
         ensures { IfOk result (λ runs. runs ≡ self.now.free) }
     {

@@ -5,6 +5,7 @@
 mod free_runs;
 mod heap;
 mod run;
+mod run_list;
 mod segment;
 mod span;
 mod used_spans;

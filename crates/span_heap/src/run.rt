@@ -5,7 +5,7 @@ ghost use Rattle.span_heap.specs.Run.{begins_at, ends_at, is_beside};
 
 use std::marker::Model;
 
-/// Neighbouring pages of one segment, at least one.
+/// Neighbouring pages of one segment.
 #[derive(Clone, Copy, Debug, PartialEq, Eq)]
 pub struct Run {
     /// The number of the segment.

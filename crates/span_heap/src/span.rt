@@ -4,6 +4,7 @@ use crate::run::Run;
 use std::marker::Model;
 
 /// Neighbouring pages of one segment that are in use. Only a heap makes one, and it has no copy.
+#[must_use = "a span that is let go stays used"]
 #[derive(Debug, Drop)]
 pub struct Span {
     pub(crate) run: Run,

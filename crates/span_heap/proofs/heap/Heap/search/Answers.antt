@@ -1,9 +1,13 @@
-use Rattle.std.proofs.Common.{◌≡◌, ℕ, ◌+◌, ◌++◌, ◌-◌, Some, sym, ◌∙◌, ap, arith}
+use Rattle.std.proofs.Common.{rules, ◌≡◌, ℕ, ◌+◌, ◌++◌, ◌-◌, Some, sym, ◌∙◌, ap, arith}
 use Rattle.std.specs.List.{remove}
+use Rattle.std.proofs.lemmas.List.Elements.{Contains-push}
+use Rattle.std.proofs.lemmas.Option.{none-some}
+use Rattle.std.proofs.lemmas.Bool.{false≢true}
 use Rattle.span_heap.specs.Runs.{front_of, rest_of}
 use Rattle.span_heap.specs.Pick.{pick}
 use Rattle.span_heap.specs.Heap.{contents}
 use Rattle.span_heap.proofs.Counted.{counts_of}
+use Rattle.span_heap.proofs.Fitting.{pick-none}
 use Rattle.span_heap.proofs.Covered.{is_run-once}
 use Rattle.span_heap.proofs.Room.{ends_fit, room_to_use, at_place, pushed}
 use Rattle.span_heap.proofs.Kept.{IsKept-carved}
@@ -68,3 +72,20 @@ returns-clause-used c =
 
 pub returns-clause-partition : goal.returns-clause-partition
 returns-clause-partition c = (invariant_of-self c).0.partition
+
+pub returns-clause-has : goal.returns-clause-has
+returns-clause-has c = rw c.push_reserved.ensures.items (Contains-push c.self.inside.used.items c.front-run.result)
+
+pub returns-in_err-place-clause-none_fits : goal.returns-in_err-place-clause-none_fits
+returns-in_err-place-clause-none_fits c =
+    let none = rw (c.as_slice.ensures.value, slack_is) at c.in_err-place.ensures in
+    (λ e. rw (← c.self.view_is) ((pick-none c.self.inside.free.items c.args.pages c.args.slack).0 none), λ all. search rules)
+
+pub returns-clause-none_fits : goal.returns-clause-none_fits
+returns-clause-none_fits c =
+    let h = c.self.inside in
+    let found = rw (c.as_slice.ensures.value, slack_is) at c.in_ok-place.ensures in
+    let picked : pick h.free.items c.args.pages c.args.slack ≡ Some c.carve.result = sym found.1 ∙ c.carve.ensures.run in (
+      λ e. absurd (false≢true (sym e)),
+      λ all. absurd (none-some c.carve.result (sym ((pick-none h.free.items c.args.pages c.args.slack).1 (rw (← c.self.view_is) at all)) ∙ picked)),
+    )
