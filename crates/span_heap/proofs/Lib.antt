@@ -13,5 +13,6 @@ pub mod Dropped
 pub mod Kept
 pub mod Room
 pub mod Taken
+pub mod Searched
 pub mod Alone
 pub mod Fitting
