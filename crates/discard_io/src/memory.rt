@@ -1,0 +1,7 @@
+//! A source, a sink and files in memory, for tests: they move a few bytes a call, and fail at chosen calls.
+
+pub(crate) mod calls;
+pub(crate) mod files;
+pub(crate) mod remaining;
+pub(crate) mod sink;
+pub(crate) mod source;

@@ -1,0 +1,22 @@
+ghost use Rattle.std.specs.Prelude.{◌≡◌, ℕ, ◌≤◌, OnOk, OnErr};
+ghost use Rattle.machine.specs.Count.{HasRisen};
+ghost use Rattle.discard_io.specs.Streams.{appended, WroteFront};
+
+use crate::sink::Sink;
+use crate::status::Failed;
+
+/// Writes all of `bytes`, with at most one write for each byte, and none where there is nothing to write.
+///
+/// `Failed` comes only where the sink had a fault in this call, and then a front of `bytes` was written.
+pub fn write_all<O: Sink>(sink: &mut O, bytes: &[u8]) -> Result<(), Failed>
+    ensures all { OnOk result (O.written sink.new ≡ appended (O.written sink.old) bytes.now) }
+    ensures front { OnErr result (WroteFront (O.written sink.old) bytes.now (O.written sink.new)) }
+    ensures failed { OnErr result (HasRisen (O.faults sink.old) (O.faults sink.new)) }
+    ensures later { O.faults sink.old ≤ O.faults sink.new }
+{
+    let mut at = 0;
+    while at < bytes.len() {
+        at += sink.write(&bytes[at..])?;
+    }
+    Ok(())
+}

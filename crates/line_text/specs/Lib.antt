@@ -1,0 +1,7 @@
+pub mod Grammar
+pub mod Hex
+pub mod Lines
+pub mod Number
+pub mod Ranges
+pub mod Script
+pub mod Spans

@@ -1,0 +1,216 @@
+-- Scripts: what each text is, a list of commands or the first place where it is refused.
+use Rattle.std.specs.Prelude.{◌≡◌, ℕ, ◌-◌, ◌^◌, Bool, true, false, ◌&&◌, ◌||◌, nat_lt, nat_le, if◌then◌else◌, List, [], ◌∷◌, ◌++◌, length, codes, Result, Ok, Err}
+use Rattle.std.specs.List.{count_by}
+use Rattle.std.specs.Option.{ok_or}
+use Rattle.std.specs.Str.{bytes_eq}
+use Rattle.line_text.specs.Number.{number_in}
+use Rattle.line_text.specs.Hex.{hex_of}
+use Rattle.line_text.specs.Lines.{kept_lines}
+use Rattle.line_text.specs.declared.cause.Cause.{Cause}
+use Rattle.line_text.specs.declared.cause.Cause.TheVariants as cause
+use Rattle.line_text.specs.declared.command.Command.{Command}
+use Rattle.line_text.specs.declared.command.Command.TheVariants.{Grant, Lock, Unlock, Write, Read, Try}
+use Rattle.line_text.specs.declared.fault.LineFault.{LineFault}
+use Rattle.line_text.specs.declared.fault.LineFault.TheVariants.{Refused, Memory}
+use Rattle.line_text.specs.declared.fault.ScriptFault.{ScriptFault}
+use Rattle.line_text.specs.declared.fault.ScriptFault.TheVariants.{Bad, NoMemory}
+
+-- the second step, if the first gave a value
+infixl 10 ◌>>=◌
+abbrev pub ◌>>=◌ : {A B E : Type 0} → Result A E → (A → Result B E) → Result B E
+(Ok x) >>= f = f x
+(Err e) >>= f = Err e
+
+-- ---- words that stand for numbers and bytes
+
+-- a number from least to most
+abbrev pub number : List ℕ → ℕ → ℕ → Result ℕ Cause
+number word least most = ok_or (number_in word least most) cause.Number
+
+-- a segment
+abbrev pub segment : List ℕ → Result ℕ Cause
+segment word = number word 0 (2 ^ 64 - 1)
+
+-- a client
+abbrev pub client : List ℕ → Result ℕ Cause
+client word = number word 1 64
+
+-- a moment
+abbrev pub moment : List ℕ → Result ℕ Cause
+moment word = number word 1 (2 ^ 62)
+
+-- the first page of a range
+abbrev pub first_page : List ℕ → Result ℕ Cause
+first_page word = number word 0 511
+
+-- a count of pages
+abbrev pub page_count : List ℕ → Result ℕ Cause
+page_count word = number word 1 512
+
+-- the place of a byte in a segment
+abbrev pub byte_place : List ℕ → Result ℕ Cause
+byte_place word = number word 0 2097151
+
+-- a count of bytes
+abbrev pub byte_count : List ℕ → Result ℕ Cause
+byte_count word = number word 1 4096
+
+-- bytes in hexadecimal digits
+abbrev pub bytes : List ℕ → Result (List ℕ) Cause
+bytes word = ok_or (hex_of word) cause.Bytes
+
+-- ---- the words behind a command's own, from left to right
+
+-- `grant` C N T: a segment of N pages for the client C at T
+abbrev pub grant : List (List ℕ) → Result Command Cause
+grant (c ∷ n ∷ t ∷ []) = do
+  owner ← client c
+  pages ← page_count n
+  at ← moment t
+  Ok (Grant owner pages at)
+grant words = Err cause.Count
+
+-- `lock` S F N: N pages of the segment S from F on
+abbrev pub lock : List (List ℕ) → Result Command Cause
+lock (s ∷ f ∷ n ∷ []) = do
+  id ← segment s
+  first ← first_page f
+  count ← page_count n
+  Ok (Lock id first count)
+lock words = Err cause.Count
+
+-- `unlock` S F N T: N pages of the segment S from F on, at T
+abbrev pub unlock : List (List ℕ) → Result Command Cause
+unlock (s ∷ f ∷ n ∷ t ∷ []) = do
+  id ← segment s
+  first ← first_page f
+  count ← page_count n
+  at ← moment t
+  Ok (Unlock id first count at)
+unlock words = Err cause.Count
+
+-- `write` S P HEX: these bytes of the segment S from P on
+abbrev pub write : List (List ℕ) → Result Command Cause
+write (s ∷ p ∷ h ∷ []) = do
+  id ← segment s
+  place ← byte_place p
+  content ← bytes h
+  Ok (Write id place content)
+write words = Err cause.Count
+
+-- `read` S P R: R bytes of the segment S from P on
+abbrev pub read : List (List ℕ) → Result Command Cause
+read (s ∷ p ∷ r ∷ []) = do
+  id ← segment s
+  place ← byte_place p
+  count ← byte_count r
+  Ok (Read id place count)
+read words = Err cause.Count
+
+-- `try` S T: a try to purge the segment S at T
+abbrev pub try_purge : List (List ℕ) → Result Command Cause
+try_purge (s ∷ t ∷ []) = do
+  id ← segment s
+  at ← moment t
+  Ok (Try id at)
+try_purge words = Err cause.Count
+
+-- the command that the words of a line are, or the first cause against it
+abbrev pub command_of : List (List ℕ) → Result Command Cause
+command_of [] = Err cause.Word
+command_of (name ∷ words) =
+    if bytes_eq name (codes "grant") then grant words
+    else if bytes_eq name (codes "lock") then lock words
+    else if bytes_eq name (codes "unlock") then unlock words
+    else if bytes_eq name (codes "write") then write words
+    else if bytes_eq name (codes "read") then read words
+    else if bytes_eq name (codes "try") then try_purge words
+    else Err cause.Word
+
+-- what reading a line gives is what is said of it, unless memory is wanting
+abbrev pub Gives : Result Command LineFault → Result Command Cause → Type 0
+Gives (Ok command) said = said ≡ Ok command
+Gives (Err (Refused why)) said = said ≡ Err why
+Gives (Err Memory) said = Unit {0}
+
+-- ---- whole scripts
+
+-- whether a command may be granted a segment; a script has at most 1,024 such
+abbrev pub is_grant : Command → Bool
+is_grant (Grant owner pages at) = true
+is_grant _ = false
+
+-- a script is a list of commands, each with the number of its line
+abbrev pub Commands : Type 0
+Commands = List (ℕ × Command)
+
+-- how many of the commands may be granted a segment
+abbrev pub grants : Commands → ℕ
+grants commands = count_by (λ c. is_grant c.1) commands
+
+-- whether a command is the 4,097th, or the 1,025th grant, where these stand before it
+abbrev pub is_one_too_many : Commands → Command → Bool
+is_one_too_many before command = nat_le 4096 (length before) || (is_grant command && nat_le 1024 (grants before))
+
+-- the command that a line is where these stand before it, or the first cause against it
+abbrev pub next_command : Commands → List (List ℕ) → Result Command Cause
+next_command before words = do
+  command ← command_of words
+  if is_one_too_many before command then Err cause.Many else Ok command
+
+-- the numbers by which causes are told
+abbrev pub cause_number : Cause → ℕ
+cause_number cause.Word = 1
+cause_number cause.Count = 2
+cause_number cause.Number = 3
+cause_number cause.Bytes = 4
+cause_number cause.Many = 5
+cause_number cause.Long = 6
+
+-- the fault of a script whose line of this number has a fault
+abbrev pub fault_at : ℕ → LineFault → ScriptFault
+fault_at number (Refused why) = Bad number (cause_number why)
+fault_at number Memory = NoMemory
+
+-- where a script is refused, and why
+pub record Refusal : Type 0 where
+  pub place : ℕ
+  pub cause : ℕ
+
+-- the refusal at a place for a cause
+abbrev pub refusal : ℕ → Cause → Refusal
+refusal place why = record { place = place; cause = cause_number why }
+
+-- the command of a line with this number, or the refusal of the line
+abbrev pub at_line : ℕ → Result Command Cause → Result Command Refusal
+at_line place (Ok command) = Ok command
+at_line place (Err why) = Err (refusal place why)
+
+-- the commands of the lines, behind those that stand before them, or the refusal of the first line that is refused
+abbrev pub commands_after : Commands → List (ℕ × List (List ℕ)) → Result Commands Refusal
+commands_after before [] = Ok before
+commands_after before (line ∷ lines) = do
+  command ← at_line line.0 (next_command before line.1)
+  commands_after (before ++ (line.0, command) ∷ []) lines
+
+-- what a text is as a script: its commands, or the first place where it is refused
+abbrev pub script_of : List ℕ → Result Commands Refusal
+script_of text = if nat_lt 1048576 (length text) then Err (refusal 1048576 cause.Long) else commands_after [] (kept_lines text)
+
+-- the text is a script of these commands
+abbrev pub IsScript : List ℕ → Commands → Type 0
+IsScript text commands = script_of text ≡ Ok commands
+
+-- the text is no script, first at this place and by this cause
+abbrev pub IsRefused : List ℕ → ℕ → ℕ → Type 0
+IsRefused text place cause = script_of text ≡ Err (record { place = place; cause = cause })
+
+-- what is answered is what a text is said to be, unless memory is wanting
+abbrev pub Answers : Result Commands ScriptFault → Result Commands Refusal → Type 0
+Answers (Ok commands) said = said ≡ Ok commands
+Answers (Err (Bad place cause)) said = said ≡ Err (record { place = place; cause = cause })
+Answers (Err NoMemory) said = Unit {0}
+
+-- what reading a text answers is what the text is, unless memory is wanting
+abbrev pub Reads : Result Commands ScriptFault → List ℕ → Type 0
+Reads answer text = Answers answer (script_of text)

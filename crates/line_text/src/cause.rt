@@ -1,0 +1,35 @@
+ghost use Rattle.std.specs.Prelude.{◌≡◌};
+ghost use Rattle.line_text.specs.Script.{cause_number};
+
+/// Why a script is refused.
+#[derive(Clone, Copy, Debug, PartialEq, Eq)]
+pub enum Cause {
+    /// The first word of the line is no command.
+    Word,
+    /// The line has too few words for its command, or too many.
+    Count,
+    /// A word that stands for a number isn't one, or is out of its range.
+    Number,
+    /// A word that stands for bytes isn't 2 to 8192 hexadecimal digits, or an odd number of them.
+    Bytes,
+    /// The line is the 4,097th command, or the 1,025th that may be granted a segment.
+    Many,
+    /// The script has more than 1,048,576 bytes.
+    Long,
+}
+
+impl Cause {
+    /// The number by which a report tells it, from 1 to 6 in the order of the variants.
+    pub fn number(self) -> u32
+        ensures { result ≡ cause_number self }
+    {
+        match self {
+            Cause::Word => 1,
+            Cause::Count => 2,
+            Cause::Number => 3,
+            Cause::Bytes => 4,
+            Cause::Many => 5,
+            Cause::Long => 6,
+        }
+    }
+}

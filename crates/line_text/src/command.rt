@@ -1,0 +1,55 @@
+ghost use Rattle.std.specs.Prelude.{◌≡◌};
+ghost use Rattle.line_text.specs.Script.{is_grant};
+
+use machine::Bytes;
+
+/// A command of a script. Segments are told by their numbers, from the oldest grant on; pages and
+/// bytes are counted from the first of the segment, which is 0.
+#[derive(Debug, Drop)]
+pub enum Command {
+    /// A segment of 1 to 512 pages for a client from 1 to 64, at a moment.
+    Grant {
+        client: u64,
+        pages: u64,
+        at: u64,
+    },
+    /// Locks `count` pages from the page `first` on.
+    Lock {
+        id: u64,
+        first: u64,
+        count: u64,
+    },
+    /// Unlocks `count` pages from the page `first` on, at a moment.
+    Unlock {
+        id: u64,
+        first: u64,
+        count: u64,
+        at: u64,
+    },
+    /// Writes 1 to 4096 bytes from the byte `place` on.
+    Write {
+        id: u64,
+        place: u64,
+        bytes: Bytes,
+    },
+    /// Reads `count` bytes, 1 to 4096, from the byte `place` on.
+    Read {
+        id: u64,
+        place: u64,
+        count: u64,
+    },
+    /// Tries to purge a segment, at a moment.
+    Try {
+        id: u64,
+        at: u64,
+    },
+}
+
+impl Command {
+    /// Whether it may be granted a segment. A script has at most 1,024 such commands.
+    pub(crate) fn is_grant(&self) -> bool
+        ensures { result ≡ is_grant self.now }
+    {
+        matches!(self, Command::Grant { .. })
+    }
+}

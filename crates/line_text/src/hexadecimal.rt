@@ -1,0 +1,26 @@
+ghost use Rattle.std.specs.Prelude.{◌≡◌, IfOk};
+ghost use Rattle.line_text.specs.Hex.{hex_of};
+
+use hex::FromHexError;
+use machine::{Bytes, NoMemory};
+use std::alloc::Global;
+
+/// The most digits that a word of bytes has.
+const MOST_DIGITS: usize = 8192;
+
+/// The bytes that a word of hexadecimal digits stands for, in either case. None comes exactly where
+/// the word isn't an even number of such digits, from 2 to 8192.
+pub fn read_hex(alloc: Global, word: &[u8]) -> Result<Option<Bytes>, NoMemory>
+    ensures { IfOk result (λ bytes. bytes ≡ hex_of word.now) }
+{
+    if word.len() < 2 || word.len() > MOST_DIGITS {
+        return Ok(None);
+    }
+    match hex::decode(alloc, word) {
+        Ok(bytes) => Ok(Some(Bytes::from_vec(bytes))),
+        Err(error) => match error {
+            FromHexError::OutOfMemory => Err(NoMemory),
+            _ => Ok(None),
+        },
+    }
+}

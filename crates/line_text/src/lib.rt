@@ -1,0 +1,28 @@
+#![tactic(auto)]
+//! Texts in lines: numbers, bytes in hexadecimal digits, lines of words, and the grammar of scripts.
+
+mod cause;
+mod command;
+mod fault;
+mod hexadecimal;
+mod laws;
+mod line;
+mod lines;
+mod number;
+mod rows;
+mod script;
+
+pub use cause::Cause;
+pub use command::Command;
+pub use fault::ScriptFault;
+pub use hexadecimal::read_hex;
+pub use laws::{
+    law_first_refusal, law_in_range, law_lines_rise, law_one_spelling, law_scripts_are_spelled,
+};
+pub use line::{Cut, Line};
+pub use lines::cut;
+pub use number::read_number;
+pub use script::{Script, read_script};
+
+#[cfg(test)]
+mod tests;

@@ -1,0 +1,192 @@
+ghost use Rattle.std.specs.Prelude.{◌≡◌, ◌≢◌, [], ◌∷◌, length, IfOk, IfErr};
+ghost use Rattle.line_text.specs.Lines.{words_of};
+ghost use Rattle.line_text.specs.Script.{number, segment, client, moment, first_page, page_count, byte_place, byte_count, grant, lock, unlock, write, read, try_purge, command_of, Gives};
+ghost use Rattle.line_text.specs.declared.cause.Cause.TheVariants.{Count};
+
+use crate::cause::Cause;
+use crate::command::Command;
+use crate::fault::LineFault;
+use crate::hexadecimal::read_hex;
+use crate::lines::split_word;
+use crate::number::read_number;
+use machine::LAST_MOMENT;
+use std::alloc::Global;
+
+fn next_word(line: &[u8]) -> Result<(&[u8], &[u8]), Cause>
+    ensures ok { IfOk result (λ word. words_of line.now ≡ word.0.now ∷ words_of word.1.now) }
+    ensures err { IfErr result (λ why. (why ≡ Count) × (words_of line.now ≡ [])) }
+{
+    split_word(line).ok_or(Cause::Count)
+}
+
+fn one_word(line: &[u8]) -> Result<&[u8], Cause>
+    ensures ok { IfOk result (λ word. words_of line.now ≡ word.now ∷ []) }
+    ensures err { IfErr result (λ why. (why ≡ Count) × (length (words_of line.now) ≢ 1)) }
+{
+    let (word, rest) = next_word(line)?;
+    match split_word(rest) {
+        None => Ok(word),
+        Some(_) => Err(Cause::Count),
+    }
+}
+
+fn two_words(line: &[u8]) -> Result<(&[u8], &[u8]), Cause>
+    ensures ok { IfOk result (λ words. words_of line.now ≡ words.0.now ∷ words.1.now ∷ []) }
+    ensures err { IfErr result (λ why. (why ≡ Count) × (length (words_of line.now) ≢ 2)) }
+{
+    let (first, rest) = next_word(line)?;
+    let second = one_word(rest)?;
+    Ok((first, second))
+}
+
+fn three_words(line: &[u8]) -> Result<(&[u8], &[u8], &[u8]), Cause>
+    ensures ok { IfOk result (λ words. words_of line.now ≡ words.0.now ∷ words.1.now ∷ words.2.now ∷ []) }
+    ensures err { IfErr result (λ why. (why ≡ Count) × (length (words_of line.now) ≢ 3)) }
+{
+    let (first, rest) = next_word(line)?;
+    let (second, third) = two_words(rest)?;
+    Ok((first, second, third))
+}
+
+fn four_words(line: &[u8]) -> Result<(&[u8], &[u8], &[u8], &[u8]), Cause>
+    ensures ok { IfOk result (λ words. words_of line.now ≡ words.0.now ∷ words.1.now ∷ words.2.now ∷ words.3.now ∷ []) }
+    ensures err { IfErr result (λ why. (why ≡ Count) × (length (words_of line.now) ≢ 4)) }
+{
+    let (first, rest) = next_word(line)?;
+    let (second, third, fourth) = three_words(rest)?;
+    Ok((first, second, third, fourth))
+}
+
+fn number(word: &[u8], least: u64, most: u64) -> Result<u64, Cause>
+    ensures { result ≡ number word.now least most }
+{
+    read_number(word, least, most).ok_or(Cause::Number)
+}
+
+fn segment(word: &[u8]) -> Result<u64, Cause>
+    ensures { result ≡ segment word.now }
+{
+    number(word, 0, u64::MAX)
+}
+
+fn client(word: &[u8]) -> Result<u64, Cause>
+    ensures { result ≡ client word.now }
+{
+    number(word, 1, 64)
+}
+
+fn moment(word: &[u8]) -> Result<u64, Cause>
+    ensures { result ≡ moment word.now }
+{
+    number(word, 1, LAST_MOMENT)
+}
+
+fn first_page(word: &[u8]) -> Result<u64, Cause>
+    ensures { result ≡ first_page word.now }
+{
+    number(word, 0, 511)
+}
+
+fn page_count(word: &[u8]) -> Result<u64, Cause>
+    ensures { result ≡ page_count word.now }
+{
+    number(word, 1, 512)
+}
+
+fn byte_place(word: &[u8]) -> Result<u64, Cause>
+    ensures { result ≡ byte_place word.now }
+{
+    number(word, 0, 2_097_151)
+}
+
+fn byte_count(word: &[u8]) -> Result<u64, Cause>
+    ensures { result ≡ byte_count word.now }
+{
+    number(word, 1, 4096)
+}
+
+fn grant(words: &[u8]) -> Result<Command, Cause>
+    ensures { result ≡ grant (words_of words.now) }
+{
+    let (owner, pages, at) = three_words(words)?;
+    Ok(Command::Grant {
+        client: client(owner)?,
+        pages: page_count(pages)?,
+        at: moment(at)?,
+    })
+}
+
+fn lock(words: &[u8]) -> Result<Command, Cause>
+    ensures { result ≡ lock (words_of words.now) }
+{
+    let (id, first, count) = three_words(words)?;
+    Ok(Command::Lock {
+        id: segment(id)?,
+        first: first_page(first)?,
+        count: page_count(count)?,
+    })
+}
+
+fn unlock(words: &[u8]) -> Result<Command, Cause>
+    ensures { result ≡ unlock (words_of words.now) }
+{
+    let (id, first, count, at) = four_words(words)?;
+    Ok(Command::Unlock {
+        id: segment(id)?,
+        first: first_page(first)?,
+        count: page_count(count)?,
+        at: moment(at)?,
+    })
+}
+
+fn write(alloc: Global, words: &[u8]) -> Result<Command, LineFault>
+    ensures { Gives result (write (words_of words.now)) }
+{
+    let (id, place, bytes) = three_words(words)?;
+    let id = segment(id)?;
+    let place = byte_place(place)?;
+    let bytes = read_hex(alloc, bytes)?.ok_or(Cause::Bytes)?;
+    Ok(Command::Write { id, place, bytes })
+}
+
+fn read(words: &[u8]) -> Result<Command, Cause>
+    ensures { result ≡ read (words_of words.now) }
+{
+    let (id, place, count) = three_words(words)?;
+    Ok(Command::Read {
+        id: segment(id)?,
+        place: byte_place(place)?,
+        count: byte_count(count)?,
+    })
+}
+
+fn try_purge(words: &[u8]) -> Result<Command, Cause>
+    ensures { result ≡ try_purge (words_of words.now) }
+{
+    let (id, at) = two_words(words)?;
+    Ok(Command::Try {
+        id: segment(id)?,
+        at: moment(at)?,
+    })
+}
+
+/// The command that a line is, whose first word is its name.
+pub(crate) fn command(alloc: Global, name: &[u8], words: &[u8]) -> Result<Command, LineFault>
+    ensures { Gives result (command_of (name.now ∷ words_of words.now)) }
+{
+    if name == b"grant".as_slice() {
+        Ok(grant(words)?)
+    } else if name == b"lock".as_slice() {
+        Ok(lock(words)?)
+    } else if name == b"unlock".as_slice() {
+        Ok(unlock(words)?)
+    } else if name == b"write".as_slice() {
+        write(alloc, words)
+    } else if name == b"read".as_slice() {
+        Ok(read(words)?)
+    } else if name == b"try".as_slice() {
+        Ok(try_purge(words)?)
+    } else {
+        Err(LineFault::Refused(Cause::Word))
+    }
+}

@@ -1,0 +1,6 @@
+pub mod Ranges
+pub mod Untouched
+pub mod Steps
+pub mod Told
+pub mod ByteRanges
+pub mod Whole

@@ -1,0 +1,11 @@
+use Rattle.std.specs.Prelude.{ℕ, Bool, List, Option}
+
+-- What is kept of one segment: for each page whether it is held, the stamp, the known use, the bytes,
+-- and whether it is gone and given back.
+pub record Kept : Type 0 where
+  pub held : List Bool
+  pub stamp : ℕ
+  pub known : Option ℕ
+  pub bytes : List ℕ
+  pub gone : Bool
+  pub ended : Bool

@@ -1,0 +1,4 @@
+pub mod Config
+pub mod Ending
+pub mod Replies
+pub mod Run
