@@ -21,7 +21,7 @@ pub struct Pool {
 }
 
 impl Model for Pool {
-    ghost use Rattle.std.specs.Prelude.{◌≡◌, ◌≤◌, ℕ, List, All, map};
+    ghost use Rattle.std.specs.Prelude.{◌<◌, ◌≤◌, ◌^◌, All, map};
     ghost use Rattle.std.specs.VecDeque.{deque_len, deque_capacity};
     ghost use Rattle.block_pool.specs.Block.{page_count, IsWiped};
     ghost use Rattle.block_pool.specs.Stock.{Stock};
@@ -30,7 +30,7 @@ impl Model for Pool {
 
     ghost view = { λ p. record { kept = map page_count p.kept.items; keep = p.keep; made = p.made } };
 
-    ghost invariant = { λ p. All IsWiped p.kept.items × (deque_len p.kept ≤ p.keep) × (p.keep ≤ deque_capacity p.kept) };
+    ghost invariant = { λ p. All IsWiped p.kept.items × (deque_len p.kept ≤ p.keep) × (p.keep ≤ deque_capacity p.kept) × (p.keep < 2 ^ 32) };
 }
 
 /// Where the oldest of these blocks with so many pages stands.
