@@ -1,4 +1,4 @@
-use Rattle.std.proofs.Common.{◌≡◌, ℕ, ◌+◌, ◌*◌, ◌<◌, ◌==◌, Bool, true, false, not, cond, ◌||◌, List, [], ◌∷◌, length, get_or, map, replicate, nat_lt, Option, Some, None, refl, sym, ap, subst, suc, ◌∙◌, arith}
+use Rattle.std.proofs.Common.{◌≡◌, ℕ, ◌+◌, ◌*◌, ◌<◌, ◌==◌, Bool, true, false, not, cond, ◌||◌, List, [], ◌∷◌, length, get_or, map, replicate, nat_lt, Some, None, refl, sym, ap, subst, suc, ◌∙◌, arith}
 use Rattle.std.specs.List.{All, remove, position, position_or_len}
 use Rattle.std.proofs.lemmas.Bool.Decides.{nat_tests}
 use Rattle.std.proofs.lemmas.Bool.{eqb-true}
@@ -18,7 +18,7 @@ map-remove_first pages (b ∷ blocks) =
     let place = position_or_len (has_pages pages) blocks in
     let one : suc place ≡ 1 + place = omega arith in
     elim (has_pages pages b) as (λ t. map page_count (remove (b ∷ blocks) (cond (not t) (1 + place) 0)) ≡ cond t (map page_count blocks) (page_count b ∷ without_oldest pages (map page_count blocks))) [
-        true ↦ refl
+      | true ↦ refl
       | false ↦ subst (λ (n : ℕ). map page_count (remove (b ∷ blocks) n) ≡ page_count b ∷ without_oldest pages (map page_count blocks)) one (ap (λ kept. page_count b ∷ kept) (map-remove_first pages blocks))
     ]
 
@@ -29,7 +29,7 @@ is_kept-map pages (b ∷ blocks) =
     let place = position_or_len (has_pages pages) blocks in
     let rest = is_kept-map pages blocks in
     elim (has_pages pages b) as (λ t. nat_lt (cond (not t) (1 + place) 0) (length (b ∷ blocks)) ≡ (t || is_kept pages (map page_count blocks))) [
-        true ↦ grind (arith, nat_tests)
+      | true ↦ grind (arith, nat_tests)
       | false ↦ grind (arith, nat_tests, rest)
     ]
 

@@ -1,4 +1,4 @@
-ghost use Rattle.std.specs.Prelude.{◌≡◌, ℕ, ◌*◌, ◌≤◌, ◌==◌, false, [], length, position, replicate, is_some, IfOk, IfSome, IfNone, OnOk, OnErr, OnSome};
+ghost use Rattle.std.specs.Prelude.{◌≡◌, ℕ, ◌*◌, ◌≤◌, ◌==◌, false, [], length, position, replicate, is_some, IsOk, IfOk, IfSome, IfNone, OnOk, OnErr, OnSome};
 ghost use Rattle.machine.specs.Count.{next_count};
 ghost use Rattle.machine.specs.declared.TheConstants.{PAGE};
 ghost use Rattle.block_pool.specs.declared.TheConstants.{MOST_PAGES};
@@ -11,7 +11,8 @@ use std::alloc::Global;
 use std::collections::VecDeque;
 use std::marker::Model;
 
-/// Blocks that nobody holds, all wiped, for the next ones who ask. It keeps at most so many.
+/// Blocks that nobody else holds, all of them wiped, for the next who asks. It keeps at most as many
+/// as it was made for, and counts the blocks that it made.
 #[derive(Debug, Drop)]
 pub struct Pool {
     /// The oldest first.
@@ -41,9 +42,10 @@ fn oldest(kept: &VecDeque<Block>, pages: u32) -> Option<usize>
 }
 
 impl Pool {
-    /// An empty pool with room for `keep` blocks.
+    /// An empty pool with room for `keep` blocks. One that keeps none takes no memory.
     pub fn new(alloc: Global, keep: u32) -> Result<Pool, NoMemory>
-        ensures { IfOk result (λ pool. pool ≡ record { kept = []; keep = keep; made = 0 }) }
+        ensures empty { IfOk result (λ pool. pool ≡ record { kept = []; keep = keep; made = 0 }) }
+        ensures no_room { keep ≡ 0 → IsOk result }
     {
         Ok(Pool {
             kept: VecDeque::with_capacity(alloc, keep as usize)?,
@@ -73,6 +75,7 @@ impl Pool {
         requires least { 1 ≤ pages }
         requires most { pages ≤ MOST_PAGES }
         ensures bytes { IfOk result (λ block. block ≡ replicate (PAGE * pages) 0) }
+        ensures pages { IfOk result (λ block. page_count block ≡ pages) }
         ensures after { OnOk result (self.new ≡ after_take pages self.old) }
         ensures none_kept { OnErr result (is_kept pages self.old.kept ≡ false) }
         ensures same { OnErr result (self.new ≡ self.old) }

@@ -1,4 +1,4 @@
-ghost use Rattle.std.specs.Prelude.{◌≡◌, ◌≤◌, slice_set};
+ghost use Rattle.std.specs.Prelude.{◌≡◌, ◌≤◌, length, replicate};
 ghost use Rattle.block_pool.specs.declared.TheConstants.{MOST_PAGES};
 
 use crate::{Block, MOST_PAGES, Pool};
@@ -6,26 +6,32 @@ use std::alloc::Global;
 use std::process::Abort;
 use std::test::Fail;
 
+// What is written through `bytes_mut` is what the block has then.
+fn fill(block: &mut Block)
+    ensures { block.new ≡ replicate (length block.old) 255 }
+{
+    block.bytes_mut().fill(255);
+}
+
 /// Takes a block, finds it wiped, with its pages, and fills it.
-fn take_and_fill(
-    rt: &impl Abort,
-    alloc: Global,
-    pool: &mut Pool,
-    pages: u32,
-) -> Result<Block, Fail>
+fn take_and_fill(rt: &impl Abort, alloc: Global, pool: &mut Pool, pages: u32) -> Result<Block, Fail>
     requires { (1 ≤ pages) × (pages ≤ MOST_PAGES) }
 {
     let mut block = pool.take(alloc, pages)?;
     assert_eq!(rt; block.pages(), pages);
     assert_eq!(rt; block.bytes().len(), 4096 * pages as usize);
     assert!(rt; block.bytes().iter().all(|byte| *byte == 0));
-    block.bytes_mut().fill(255);
+    fill(&mut block);
     Ok(block)
+}
+
+fn crosses_threads<T: Send + Sync>(value: T) -> T {
+    value
 }
 
 #[test]
 fn a_kept_block_comes_back_wiped(rt: HostRuntime) -> Result<(), Fail> {
-    let mut pool = Pool::new(rt.alloc(), 1)?;
+    let mut pool = crosses_threads(Pool::new(rt.alloc(), 1)?);
     assert_eq!(rt; (pool.kept(), pool.made()), (0, 0));
 
     let block = take_and_fill(&rt, rt.alloc(), &mut pool, 1)?;
@@ -38,7 +44,7 @@ fn a_kept_block_comes_back_wiped(rt: HostRuntime) -> Result<(), Fail> {
     let two = take_and_fill(&rt, rt.alloc(), &mut pool, 2)?;
     assert_eq!(rt; pool.made(), 2);
 
-    pool.put(one);
+    pool.put(crosses_threads(one));
     pool.put(two);
     assert_eq!(rt; pool.kept(), 1);
     take_and_fill(&rt, rt.alloc(), &mut pool, 1)?;
@@ -46,13 +52,22 @@ fn a_kept_block_comes_back_wiped(rt: HostRuntime) -> Result<(), Fail> {
     Ok(())
 }
 
-// What is written through `bytes_mut` is what the block has then.
-fn write_first(block: &mut Block)
-    ensures { block.new ≡ slice_set block.old 0 255 }
-{
-    block.bytes_mut()[0] = 255;
-}
-
-fn crosses_threads<T: Send + Sync>(value: T) -> T {
-    value
+#[test]
+fn the_first_ones_put_are_kept(rt: HostRuntime) -> Result<(), Fail> {
+    for (keep, kept, made) in [(0, 0, 8), (1, 1, 7), (2, 2, 6), (3, 3, 5), (9, 4, 4)] {
+        let mut pool = Pool::new(rt.alloc(), keep)?;
+        let mut blocks = Vec::new(rt.alloc());
+        for pages in [1, 2, 1, 512] {
+            blocks.push(take_and_fill(&rt, rt.alloc(), &mut pool, pages)?)?;
+        }
+        for block in blocks {
+            pool.put(block);
+        }
+        assert_eq!(rt; pool.kept(), kept);
+        for pages in [1, 1, 2, 512] {
+            take_and_fill(&rt, rt.alloc(), &mut pool, pages)?;
+        }
+        assert_eq!(rt; (pool.kept(), pool.made()), (0, made));
+    }
+    Ok(())
 }
