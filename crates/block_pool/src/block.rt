@@ -6,11 +6,12 @@ ghost use Rattle.machine.specs.declared.TheConstants.{PAGE};
 use crate::MOST_PAGES;
 use machine::{NoMemory, PAGE};
 use std::alloc::Global;
+use std::fmt;
 use std::marker::Model;
 
 /// Some pages of memory, 1 to 65,536 of them, seen by contracts as the list of their bytes. It cannot
 /// be copied, and only a pool makes one, so whoever has it is its one holder.
-#[derive(Debug, Drop)]
+#[derive(Drop)]
 pub struct Block {
     bytes: Vec<u8>,
     pages: u32,
@@ -26,6 +27,15 @@ impl Model for Block {
     ghost view = { λ b. b.bytes.items };
 
     ghost invariant = { λ b. (vec_len b.bytes ≡ PAGE * b.pages) × (1 ≤ b.pages) × (b.pages ≤ MOST_PAGES) };
+}
+
+/// Shows the pages, and not the bytes.
+impl fmt::Debug for Block {
+    fn fmt<W: fmt::Write>(&self, f: &mut fmt::Formatter<W>) -> fmt::Result {
+        f.debug_struct("Block")
+            .field("pages", &self.pages)
+            .finish_non_exhaustive()
+    }
 }
 
 impl Block {

@@ -31,7 +31,9 @@ impl Model for Pool {
 
     ghost view = { λ p. record { kept = map page_count p.kept.items; keep = p.keep; made = p.made } };
 
-    ghost invariant = { λ p. All IsWiped p.kept.items × (deque_len p.kept ≤ p.keep) × (p.keep ≤ deque_capacity p.kept) × (p.keep < 2 ^ 32) };
+    // Every kept block is wiped, and there is room for as many as may be kept.
+    ghost invariant = { λ p. All IsWiped p.kept.items
+        × (deque_len p.kept ≤ p.keep) × (p.keep ≤ deque_capacity p.kept) × (p.keep < 2 ^ 32) };
 }
 
 /// Where the oldest of these blocks with so many pages stands.

@@ -43,6 +43,10 @@ fn a_kept_block_comes_back_wiped(rt: HostRuntime) -> Result<(), Fail> {
 
     let two = take_and_fill(&rt, rt.alloc(), &mut pool, 2)?;
     assert_eq!(rt; pool.made(), 2);
+    assert_eq!(rt;
+        format!(in rt.alloc(); "{two:?}")?.as_str(),
+        "Block { pages: 2, .. }"
+    );
 
     pool.put(crosses_threads(one));
     pool.put(two);
