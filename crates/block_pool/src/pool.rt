@@ -1,4 +1,4 @@
-ghost use Rattle.std.specs.Prelude.{◌≡◌, ℕ, ◌*◌, ◌≤◌, ◌==◌, false, [], length, position, replicate, is_some, IsOk, IfOk, IfSome, IfNone, OnOk, OnErr, OnSome};
+ghost use Rattle.std.specs.Prelude.{◌≡◌, ◌*◌, ◌≤◌, ◌==◌, false, [], length, position, replicate, is_some, IsOk, IfOk, IfSome, IfNone, OnOk, OnErr, OnSome};
 ghost use Rattle.machine.specs.Count.{next_count};
 ghost use Rattle.machine.specs.declared.TheConstants.{PAGE};
 ghost use Rattle.block_pool.specs.declared.TheConstants.{MOST_PAGES};
