@@ -1,13 +1,12 @@
 -- What the table of a book tells of its entries, and how it follows one more entry.
-use Rattle.std.proofs.Common.{◌≡◌, ℕ, ◌+◌, ◌-◌, ◌==◌, ◌<◌, ◌≤◌, nat_le, Bool, true, false, not, ◌&&◌, ◌||◌, List, [], ◌∷◌, ◌++◌, length, get_or, set, filter, sum, zero, suc, cond, nat_lt, inl, inr, length-append, refl, sym, ap, ◌∙◌, subst, arith}
+use Rattle.std.proofs.Common.{◌≡◌, ℕ, ◌+◌, ◌-◌, ◌==◌, ◌≤◌, nat_le, true, ◌&&◌, List, [], ◌∷◌, ◌++◌, length, get_or, set, filter, sum, zero, suc, cond, nat_lt, inl, inr, length-append, refl, sym, ap, ◌∙◌, arith}
 use Rattle.std.proofs.lemmas.Bool.{and_parts, cases_lt, eqb-true, leb-true, false≢true}
-use Rattle.std.proofs.lemmas.Bool.Decides.{nat_tests}
 use Rattle.std.proofs.lemmas.List.{append-nil, length-set, get_or_past}
 use Rattle.machine.specs.Answers.{is_moment}
 use Rattle.discard_book.specs.declared.entry.Entry.{Entry}
 use Rattle.discard_book.specs.declared.entry.Entry.TheVariants.{Grant, Reduced, Purge, Back}
 use Rattle.discard_book.specs.Live.{is_grant, live, has_number, pages_of, granted, grants, live_after, AreDrawn}
-use Rattle.discard_book.specs.Legal.{room, is_empty, fits_after, has_room, IsLegal}
+use Rattle.discard_book.specs.Legal.{room, is_empty, fits_after, has_room}
 use Rattle.discard_book.specs.Table.{numbered, table_after, CanFollow, Keeps}
 use Rattle.discard_book.proofs.Numbered.{has_number-at, has_number-below, without, without-at, pages_of-numbered, is_empty-numbered, numbered-push, AreDrawn-numbered}
 use Rattle.discard_book.proofs.Pushed.{live-push, grants-push, IsLegal-push}

@@ -152,7 +152,7 @@ impl Book {
 
     /// Adds an entry, which takes one spare place and no memory. `spare` and `fits` tell whether it can.
     pub fn add(&mut self, entry: Entry)
-        requires room { 1 ≤ self.old.spare }
+        requires spare { 1 ≤ self.old.spare }
         requires fits { fits_after self.old.entries entry ≡ true }
         ensures entries { self.new.entries ≡ self.old.entries ++ entry ∷ [] }
         ensures spare { self.new.spare + 1 ≡ self.old.spare }
@@ -166,7 +166,8 @@ impl Book {
 
     /// The pages of all live segments: those that were granted, and neither purged nor given back.
     pub fn granted(&self) -> u128
-        ensures { result ≡ granted self.now.entries }
+        ensures granted { result ≡ granted self.now.entries }
+        ensures legal { IsLegal self.now.entries }
     {
         self.segments.total()
     }

@@ -1,6 +1,6 @@
-use Rattle.std.proofs.Common.{◌≡◌, ◌-◌, ◌+◌, ◌<◌, ◌≤◌, vec_len, vec_capacity, ap, ◌∙◌, arith}
+use Rattle.std.proofs.Common.{ap, ◌∙◌, arith}
 use Rattle.discard_book.specs.Live.{live, live_after}
-use Rattle.discard_book.specs.Legal.{fits_after, IsLegal}
+use Rattle.discard_book.specs.Legal.{fits_after}
 use Rattle.discard_book.specs.Log.{Log}
 use Rattle.discard_book.proofs.Pushed.{live-push, IsLegal-push}
 use Rattle.discard_book.proofs.Kept.{can_follow, Keeps-push}

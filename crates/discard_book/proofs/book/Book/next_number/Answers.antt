@@ -1,4 +1,4 @@
-use Rattle.std.proofs.Common.{◌+◌, ap, ◌∙◌, arith}
+use Rattle.std.proofs.Common.{◌+◌, ap, ◌∙◌}
 use Rattle.discard_book.specs.Live.{grants}
 use Rattle.discard_book.specs.Log.{Log}
 use Rattle.discard_book.proofs.book.Book.next_number.Goals as goal

@@ -1,6 +1,5 @@
-use Rattle.std.proofs.Common.{◌≡◌, ◌+◌, ◌-◌, ◌≤◌, nat_lt, length, get_or, arith, sym, ap, ◌∙◌}
+use Rattle.std.proofs.Common.{◌-◌, ◌≤◌, nat_lt, length, arith, sym, ap, ◌∙◌}
 use Rattle.std.proofs.lemmas.Bool.{leb-true, leb-false}
-use Rattle.std.proofs.lemmas.Bool.Decides.{nat_tests}
 use Rattle.std.proofs.lemmas.List.{get_or_past, get_or_read}
 use Rattle.discard_book.proofs.Numbered.{has_number-at, has_number-below}
 use Rattle.discard_book.proofs.segments.Segments.is_live.Goals as goal
