@@ -1,4 +1,4 @@
-ghost use Rattle.std.specs.Prelude.{◌≡◌, ℕ, ◌+◌, ◌<◌, ◌≤◌, Bool, true, List, [], ◌∷◌, ◌++◌, IfOk, OnOk, OnErr, IsOk, IsOkAnd};
+ghost use Rattle.std.specs.Prelude.{◌≡◌, ℕ, ◌+◌, ◌^◌, ◌<◌, ◌≤◌, Bool, true, List, [], ◌∷◌, ◌++◌, IfOk, OnOk, OnErr, IsOk, IsOkAnd};
 ghost use Rattle.discard_book.specs.Live.{live, has_number, granted, grants, live_after, AreDrawn};
 ghost use Rattle.discard_book.specs.Legal.{fits_after, has_room, is_reduced_to, last, is_empty, may_stop, IsLegal};
 ghost use Rattle.discard_book.specs.Text.{text_of};
@@ -83,7 +83,7 @@ impl Book {
                 pages,
                 limit,
             } => {
-                id == self.next_number()
+                id == self.grants() + 1
                     && client >= 1
                     && pages >= 1
                     && pages <= MOST_PAGES
@@ -98,13 +98,6 @@ impl Book {
             Entry::Purge { id, known } => { self.is_live(id) && known >= 1 && known <= LAST_MOMENT }
             Entry::Back { id } => self.is_live(id),
         }
-    }
-
-    /// The number of the next Grant.
-    fn next_number(&self) -> u64
-        ensures { result ≡ grants self.now.entries + 1 }
-    {
-        self.segments.next_number()
     }
 
     /// Whether the segment of this number is live.
@@ -170,6 +163,14 @@ impl Book {
         ensures legal { IsLegal self.now.entries }
     {
         self.segments.total()
+    }
+
+    /// How many Grants it has. The next Grant's number is one more.
+    pub fn grants(&self) -> u64
+        ensures grants { result ≡ grants self.now.entries }
+        ensures few { result < 2 ^ 63 }
+    {
+        self.segments.drawn()
     }
 
     /// All entries, the oldest first. They are legal, and the numbers of the live segments among them

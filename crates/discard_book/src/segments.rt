@@ -1,4 +1,4 @@
-ghost use Rattle.std.specs.Prelude.{◌≡◌, ℕ, ◌+◌, ◌-◌, ◌*◌, ◌<◌, ◌≤◌, [], ◌∷◌, ◌++◌, sum, slice_index, slice_set, vec_len, vec_capacity, OnOk, OnErr};
+ghost use Rattle.std.specs.Prelude.{◌≡◌, ℕ, ◌+◌, ◌-◌, ◌*◌, ◌^◌, ◌<◌, ◌≤◌, [], ◌∷◌, ◌++◌, sum, slice_index, slice_set, vec_len, vec_capacity, OnOk, OnErr};
 ghost use Rattle.discard_book.specs.Table.{numbered, table_after, CanFollow};
 ghost use Rattle.discard_book.specs.Live.{has_number};
 
@@ -32,11 +32,12 @@ impl Segments {
         }
     }
 
-    /// The number that the next segment gets.
-    pub(crate) fn next_number(&self) -> u64
-        ensures { result ≡ vec_len self.now.pages + 1 }
+    /// How many numbers were drawn.
+    pub(crate) fn drawn(&self) -> u64
+        ensures drawn { result ≡ vec_len self.now.pages }
+        ensures few { result < 2 ^ 63 }
     {
-        self.pages.len() as u64 + 1
+        self.pages.len() as u64
     }
 
     /// The pages of all live segments.

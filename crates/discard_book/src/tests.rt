@@ -167,5 +167,6 @@ fn a_purge_under_pressure_stands_before_its_reduction(rt: HostRuntime) -> Result
     }
     assert_eq!(rt; book.entries(), entries.as_slice());
     assert_eq!(rt; book.granted(), 0);
+    assert_eq!(rt; book.grants(), 1);
     Ok(())
 }
