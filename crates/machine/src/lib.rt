@@ -4,7 +4,7 @@
 mod bytes;
 mod event;
 mod memory;
-mod pages;
+pub mod pages;
 mod plain;
 mod segment;
 #[cfg(test)]

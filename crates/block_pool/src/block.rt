@@ -1,0 +1,87 @@
+ghost use Rattle.std.specs.Prelude.{◌≡◌, ◌*◌, ◌≤◌, IfOk, replicate};
+ghost use Rattle.std.specs.Borrow.{sem};
+ghost use Rattle.block_pool.specs.Block.{page_count, IsBlock};
+ghost use Rattle.machine.specs.declared.TheConstants.{PAGE};
+
+use crate::MOST_PAGES;
+use machine::{NoMemory, PAGE};
+use std::alloc::Global;
+use std::fmt;
+use std::marker::Model;
+
+/// Some pages of memory, 1 to 65,536 of them, seen by contracts as the list of their bytes. It cannot
+/// be copied, and only a pool makes one, so whoever has it is its one holder.
+#[derive(Drop)]
+pub struct Block {
+    bytes: Vec<u8>,
+    pages: u32,
+}
+
+impl Model for Block {
+    ghost use Rattle.std.specs.Prelude.{◌≡◌, ◌*◌, ◌≤◌, ℕ, List, vec_len};
+    ghost use Rattle.machine.specs.declared.TheConstants.{PAGE};
+    ghost use Rattle.block_pool.specs.declared.TheConstants.{MOST_PAGES};
+
+    ghost Value = { List ℕ };
+
+    ghost view = { λ b. b.bytes.items };
+
+    ghost invariant = { λ b. (vec_len b.bytes ≡ PAGE * b.pages) × (1 ≤ b.pages) × (b.pages ≤ MOST_PAGES) };
+}
+
+/// Shows the pages, and not the bytes.
+impl fmt::Debug for Block {
+    fn fmt<W: fmt::Write>(&self, f: &mut fmt::Formatter<W>) -> fmt::Result {
+        f.debug_struct("Block")
+            .field("pages", &self.pages)
+            .finish_non_exhaustive()
+    }
+}
+
+impl Block {
+    ghost use Rattle.block_pool.specs.Lending.{LendsBytes};
+
+    /// A new block of so many pages, all bytes zero.
+    pub(crate) fn new(alloc: Global, pages: u32) -> Result<Block, NoMemory>
+        requires least { 1 ≤ pages }
+        requires most { pages ≤ MOST_PAGES }
+        ensures { IfOk result (λ block. block ≡ replicate (PAGE * pages) 0) }
+    {
+        Ok(Block {
+            bytes: vec![in alloc; 0; PAGE as usize * pages as usize]?,
+            pages,
+        })
+    }
+
+    /// How many pages it has.
+    pub fn pages(&self) -> u32
+        ensures value { result ≡ page_count self.now }
+        ensures block { IsBlock self.now }
+    {
+        self.pages
+    }
+
+    /// Its bytes, 4096 of them in each page.
+    pub fn bytes(&self) -> &[u8]
+        ensures value { result.now ≡ self.now }
+        ensures block { IsBlock self.now }
+    {
+        self.bytes.as_slice()
+    }
+
+    /// Its bytes, to be written. It keeps its pages.
+    pub fn bytes_mut(&mut self) -> &mut [u8]
+        ensures* writes_back { sem 𝓛 (LendsBytes self.entry result) }
+        ensures value { result.now ≡ self.old }
+        ensures block { IsBlock self.old }
+    {
+        self.bytes.as_mut_slice()
+    }
+
+    /// Makes all its bytes zero.
+    pub(crate) fn wipe(&mut self)
+        ensures { self.new ≡ replicate (PAGE * page_count self.old) 0 }
+    {
+        self.bytes.fill(0);
+    }
+}

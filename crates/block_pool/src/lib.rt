@@ -1,0 +1,13 @@
+#![tactic(auto)]
+//! Blocks of memory, and a pool that keeps them wiped for the next one who asks.
+
+mod block;
+mod pool;
+#[cfg(test)]
+mod tests;
+
+pub use block::Block;
+pub use pool::Pool;
+
+/// The most pages that a block may have.
+pub const MOST_PAGES: u32 = 65536;

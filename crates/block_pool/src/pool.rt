@@ -1,0 +1,124 @@
+ghost use Rattle.std.specs.Prelude.{◌≡◌, ◌*◌, ◌≤◌, ◌==◌, false, [], length, position, replicate, is_some, IsOk, IfOk, IfSome, IfNone, OnOk, OnErr, OnSome};
+ghost use Rattle.machine.specs.Count.{next_count};
+ghost use Rattle.machine.specs.declared.TheConstants.{PAGE};
+ghost use Rattle.block_pool.specs.declared.TheConstants.{MOST_PAGES};
+ghost use Rattle.block_pool.specs.Block.{page_count};
+ghost use Rattle.block_pool.specs.Stock.{is_kept, without_oldest, after_take, after_put};
+
+use crate::block::Block;
+use machine::NoMemory;
+use std::alloc::Global;
+use std::collections::VecDeque;
+use std::marker::Model;
+
+/// Blocks that nobody else holds, all of them wiped, for the next who asks. It keeps at most as many
+/// as it was made for, and counts the blocks that it made.
+#[derive(Debug, Drop)]
+pub struct Pool {
+    /// The oldest first.
+    kept: VecDeque<Block>,
+    keep: u32,
+    made: u64,
+}
+
+impl Model for Pool {
+    ghost use Rattle.std.specs.Prelude.{◌<◌, ◌≤◌, ◌^◌, All, map};
+    ghost use Rattle.std.specs.VecDeque.{deque_len, deque_capacity};
+    ghost use Rattle.block_pool.specs.Block.{page_count, IsWiped};
+    ghost use Rattle.block_pool.specs.Stock.{Stock};
+
+    ghost Value = { Stock };
+
+    ghost view = { λ p. record { kept = map page_count p.kept.items; keep = p.keep; made = p.made } };
+
+    // Every kept block is wiped, and there is room for as many as may be kept.
+    ghost invariant = { λ p. All IsWiped p.kept.items
+        × (deque_len p.kept ≤ p.keep) × (p.keep ≤ deque_capacity p.kept) × (p.keep < 2 ^ 32) };
+}
+
+/// Where the oldest of these blocks with so many pages stands.
+fn oldest(kept: &VecDeque<Block>, pages: u32) -> Option<usize>
+    ensures { result ≡ position (λ bytes. page_count bytes == pages) kept.now.items }
+{
+    kept.iter().position(|block| block.pages() == pages)
+}
+
+impl Pool {
+    /// An empty pool with room for `keep` blocks. One that keeps none takes no memory.
+    pub fn new(alloc: Global, keep: u32) -> Result<Pool, NoMemory>
+        ensures empty { IfOk result (λ pool. pool ≡ record { kept = []; keep = keep; made = 0 }) }
+        ensures no_room { keep ≡ 0 → IsOk result }
+    {
+        Ok(Pool {
+            kept: VecDeque::with_capacity(alloc, keep as usize)?,
+            keep,
+            made: 0,
+        })
+    }
+
+    /// How many blocks it keeps.
+    pub fn kept(&self) -> u32
+        ensures value { result ≡ length self.now.kept }
+        ensures within { length self.now.kept ≤ self.now.keep }
+    {
+        self.kept.len() as u32
+    }
+
+    /// How many blocks it made, or the last value of u64 once it made more.
+    pub fn made(&self) -> u64
+        ensures { result ≡ self.now.made }
+    {
+        self.made
+    }
+
+    /// A block of 1 to 65,536 pages, all bytes zero: the oldest kept one of that length, or a new one
+    /// where none is kept. Only then may memory be wanting, and the pool stays as it was.
+    pub fn take(&mut self, alloc: Global, pages: u32) -> Result<Block, NoMemory>
+        requires least { 1 ≤ pages }
+        requires most { pages ≤ MOST_PAGES }
+        ensures bytes { IfOk result (λ block. block ≡ replicate (PAGE * pages) 0) }
+        ensures pages { IfOk result (λ block. page_count block ≡ pages) }
+        ensures after { OnOk result (self.new ≡ after_take pages self.old) }
+        ensures none_kept { OnErr result (is_kept pages self.old.kept ≡ false) }
+        ensures same { OnErr result (self.new ≡ self.old) }
+    {
+        match self.take_oldest(pages) {
+            Some(block) => Ok(block),
+            None => self.make(alloc, pages),
+        }
+    }
+
+    /// The oldest kept block of so many pages, taken out of the pool.
+    fn take_oldest(&mut self, pages: u32) -> Option<Block>
+        ensures bytes { IfSome result (λ block. block ≡ replicate (PAGE * pages) 0) }
+        ensures found { is_some result ≡ is_kept pages self.old.kept }
+        ensures after { OnSome result (self.new ≡ record self.old { kept = without_oldest pages self.old.kept }) }
+        ensures same { IfNone result (self.new ≡ self.old) }
+    {
+        let place = oldest(&self.kept, pages)?;
+        self.kept.remove(place)
+    }
+
+    /// A new block, counted.
+    fn make(&mut self, alloc: Global, pages: u32) -> Result<Block, NoMemory>
+        requires least { 1 ≤ pages }
+        requires most { pages ≤ MOST_PAGES }
+        ensures bytes { IfOk result (λ block. block ≡ replicate (PAGE * pages) 0) }
+        ensures after { OnOk result (self.new ≡ record self.old { made = next_count self.old.made }) }
+        ensures same { OnErr result (self.new ≡ self.old) }
+    {
+        let block = Block::new(alloc, pages)?;
+        self.made = self.made.saturating_add(1);
+        Ok(block)
+    }
+
+    /// Wipes a block and keeps it last, where fewer than `keep` are kept. Else it drops the block.
+    pub fn put(&mut self, mut block: Block)
+        ensures { self.new ≡ after_put (page_count block) self.old }
+    {
+        if self.kept.len() < self.keep as usize {
+            block.wipe();
+            self.kept.push_back_reserved(block);
+        }
+    }
+}

@@ -1,0 +1,5 @@
+pub mod Live
+pub mod Legal
+pub mod Table
+pub mod Text
+pub mod Log

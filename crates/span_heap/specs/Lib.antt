@@ -1,0 +1,4 @@
+pub mod Run
+pub mod Runs
+pub mod Pick
+pub mod Heap

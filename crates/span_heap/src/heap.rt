@@ -1,0 +1,219 @@
+ghost use Rattle.std.specs.Prelude.{◌≡◌, ◌+◌, ◌-◌, ◌^◌, ◌<◌, ◌≤◌, ◌↔◌, ◌≢◌, not, [], ◌∷◌, ◌++◌, All, Contains, IsPermutation, IsTrue, IsFalse, IfOk, IfSome, IfNone, IsNone, OnOk, OnErr, filter};
+ghost use Rattle.std.specs.Option.{option_map};
+ghost use Rattle.span_heap.specs.Run.{pages_of};
+ghost use Rattle.span_heap.specs.Runs.{front_of, back_of, carved, freed, dropped};
+ghost use Rattle.span_heap.specs.Pick.{fits, pick};
+ghost use Rattle.span_heap.specs.Heap.{contents, IsPartition, has_id, has_segment, size_of, pages_in};
+
+use crate::free_runs::{carve, join, pick};
+use crate::run::{Run, Runs};
+use crate::run_list::{make_room, pages_in, remove_runs};
+use crate::segment::{Segment, remove_segment};
+use crate::span::Span;
+use crate::used_spans::take_out;
+use machine::NoMemory;
+use std::alloc::Global;
+use std::marker::Model;
+
+/// Segments of pages, cut into used spans and free runs.
+///
+/// Each page of each segment lies in exactly one used span or free run, and no two free runs touch.
+/// Only `new`, `grow` and `runs` take memory, since a segment comes with room for one span and one
+/// run per page. `free_pages` reads a count; each other call goes along the lists of segments, used
+/// spans or free runs.
+#[derive(Debug, Drop)]
+pub struct Heap {
+    segments: Vec<Segment>,
+    used: Vec<Run>,
+    free: Vec<Run>,
+    pages: u32,
+    free_pages: u32,
+}
+
+impl Model for Heap {
+    ghost use Rattle.std.specs.Prelude.{◌≤◌, vec_capacity};
+    ghost use Rattle.span_heap.specs.Heap.{Contents, contents, IsKept};
+
+    ghost Value = { Contents };
+
+    ghost view = { λ h. contents h.segments.items h.used.items h.free.items };
+
+    ghost invariant = { λ h. IsKept (contents h.segments.items h.used.items h.free.items) h.pages h.free_pages
+        × (h.pages ≤ vec_capacity h.used) × (h.pages ≤ vec_capacity h.free) };
+}
+
+impl Heap {
+    /// A heap with no segment. The one error is want of memory.
+    pub fn new(alloc: Global) -> Result<Heap, NoMemory>
+        ensures { IfOk result (λ heap. heap ≡ contents [] [] []) }
+    {
+        Ok(Heap {
+            segments: Vec::new(alloc),
+            used: Vec::new(alloc),
+            free: Vec::new(alloc),
+            pages: 0,
+            free_pages: 0,
+        })
+    }
+
+    /// Adds a segment and answers it whole, as one used span. `NoMemory` leaves the heap as before.
+    ///
+    /// Conditions: no segment of the heap has this number, it has 1 to 65,536 pages, and all pages
+    /// of the heap together stay below 2^32.
+    pub fn grow(&mut self, _alloc: Global, segment: u64, pages: u32) -> Result<Span, NoMemory>
+        requires fresh { IsFalse (has_segment self.old.segments segment) }
+        requires sized { (1 ≤ pages) × (pages ≤ 65536) }
+        requires small { size_of self.old.segments + pages < 2 ^ 32 }
+
+        ensures span { IfOk result (λ span. span ≡ record { segment = segment; first = 0; pages = pages }) }
+        ensures segments { OnOk result (self.new.segments ≡ self.old.segments ++ record { id = segment; pages = pages } ∷ []) }
+        ensures used { IfOk result (λ span. IsPermutation (span ∷ self.old.used) self.new.used) }
+        ensures has { IfOk result (Contains self.new.used) }
+        ensures free { self.new.free ≡ self.old.free }
+        ensures none_free { All (λ run. run.segment ≢ segment) self.new.free }
+        ensures err { OnErr result (self.new ≡ self.old) }
+        ensures partition { IsPartition self.new }
+    {
+        let total = self.pages + pages;
+        self.segments.reserve(1)?;
+        make_room(&mut self.used, total)?;
+        make_room(&mut self.free, total)?;
+        let run = Run {
+            segment,
+            first: 0,
+            pages,
+        };
+        self.segments.push_reserved(Segment { id: segment, pages });
+        self.used.push_reserved(run);
+        self.pages = total;
+        Ok(Span { run })
+    }
+
+    /// Takes a free run of at least `pages` pages and at most `slack` more, uses its first `pages`
+    /// pages, and appends what is left of it to the free runs. It is the latest run of the least
+    /// length that fits, where all lengths from 256 on count as one. `None` comes exactly where no
+    /// run fits, and then nothing changed.
+    ///
+    /// Conditions: `pages` is at least 1, and `pages + slack` fits u32.
+    pub fn search(&mut self, pages: u32, slack: u32) -> Option<Span>
+        requires sized { 1 ≤ pages }
+        requires small { pages + slack < 2 ^ 32 }
+        ensures span { result ≡ option_map (λ run. front_of run pages) (pick self.old.free pages slack) }
+        ensures free { IfSome (pick self.old.free pages slack) (λ run. self.new.free ≡ carved self.old.free run pages) }
+        ensures used { IfSome result (λ span. IsPermutation (span ∷ self.old.used) self.new.used) }
+        ensures has { IfSome result (Contains self.new.used) }
+        ensures segments { self.new.segments ≡ self.old.segments }
+        ensures none { IfNone result (self.new ≡ self.old) }
+        ensures none_fits { IsNone result ↔ All (λ run. IsFalse (fits pages slack run)) self.old.free }
+        ensures partition { IsPartition self.new }
+    {
+        let place = pick(self.free.as_slice(), pages, pages + slack)?;
+        let run = carve(&mut self.free, place, pages).front(pages);
+        self.used.push_reserved(run);
+        self.free_pages -= pages;
+        Some(Span { run })
+    }
+
+    /// Cuts a used span in two, behind its first `front` pages.
+    ///
+    /// Conditions: the heap has the span, and `front` is from 1 to one below its pages.
+    pub fn split(&mut self, span: Span, front: u32) -> (Span, Span)
+        requires used { Contains self.old.used span }
+        requires within { (1 ≤ front) × (front < span.pages) }
+        ensures spans { result ≡ (front_of span front, back_of span front) }
+        ensures used { IsPermutation (result.0 ∷ result.1 ∷ self.old.used) (span ∷ self.new.used) }
+        ensures has { Contains self.new.used result.0 × Contains self.new.used result.1 }
+        ensures free { self.new.free ≡ self.old.free }
+        ensures segments { self.new.segments ≡ self.old.segments }
+        ensures partition { IsPartition self.new }
+    {
+        let whole = span.run;
+        take_out(&mut self.used, whole);
+        let (front, back) = (whole.front(front), whole.back(front));
+        self.used.push_reserved(front);
+        self.used.push_reserved(back);
+        (Span { run: front }, Span { run: back })
+    }
+
+    /// Frees a used span. It is joined with the free runs directly before it and directly behind
+    /// it, and the joined run is the latest.
+    ///
+    /// Condition: the heap has the span.
+    pub fn free(&mut self, span: Span)
+        requires { Contains self.old.used span }
+        ensures free { self.new.free ≡ freed self.old.free span }
+        ensures alone { All (λ run. run.segment ≢ span.segment) self.old.free → self.new.free ≡ self.old.free ++ span ∷ [] }
+        ensures used { IsPermutation self.old.used (span ∷ self.new.used) }
+        ensures segments { self.new.segments ≡ self.old.segments }
+        ensures partition { IsPartition self.new }
+    {
+        let run = span.run;
+        take_out(&mut self.used, run);
+        join(&mut self.free, run);
+        self.free_pages += run.pages;
+    }
+
+    /// Drops a segment with its free runs and its used spans, and answers how many of its pages
+    /// were used.
+    ///
+    /// Condition: a segment of the heap has this number.
+    pub fn drop_segment(&mut self, segment: u64) -> u32
+        requires { IsTrue (has_segment self.old.segments segment) }
+        ensures answer { result ≡ pages_in segment self.old.used }
+        ensures segments { self.new.segments ≡ filter (λ other. not (has_id segment other)) self.old.segments }
+        ensures used { IsPermutation (dropped self.old.used segment) self.new.used }
+        ensures free { self.new.free ≡ dropped self.old.free segment }
+        ensures partition { IsPartition self.new }
+    {
+        let used = pages_in(self.used.as_slice(), segment);
+        let free = pages_in(self.free.as_slice(), segment);
+        remove_segment(&mut self.segments, segment);
+        remove_runs(&mut self.used, segment);
+        remove_runs(&mut self.free, segment);
+        self.pages -= used + free;
+        self.free_pages -= free;
+        used
+    }
+
+    /// Whether this is one of the used spans. A span is known by its segment, its first page and
+    /// its pages.
+    pub fn has(&self, span: &Span) -> bool
+        ensures answer { IsTrue result ↔ Contains self.now.used span.now }
+        ensures partition { IsPartition self.now }
+    {
+        self.used.contains(&span.run)
+    }
+
+    /// Whether one of the segments has this number.
+    pub fn has_segment(&self, segment: u64) -> bool
+        ensures { result ≡ has_segment self.now.segments segment }
+    {
+        self.segments.iter().any(|other| other.id == segment)
+    }
+
+    /// Whether no used span lies in this segment.
+    ///
+    /// Condition: a segment of the heap has this number.
+    pub fn all_free(&self, segment: u64) -> bool
+        requires { IsTrue (has_segment self.now.segments segment) }
+        ensures { IsTrue result ↔ All (λ run. run.segment ≢ segment) self.now.used }
+    {
+        self.used.iter().all(|run| run.segment != segment)
+    }
+
+    /// The pages of all free runs.
+    pub fn free_pages(&self) -> u64
+        ensures { result ≡ pages_of self.now.free }
+    {
+        u64::from(self.free_pages)
+    }
+
+    /// The free runs as they are now, the oldest first. The one error is want of memory.
+    pub fn runs(&self, alloc: Global) -> Result<Runs, NoMemory>
+        ensures { IfOk result (λ runs. runs ≡ self.now.free) }
+    {
+        Ok(Runs {
+            runs: Vec::from_slice(alloc, self.free.as_slice())?,
+        })
+    }
+}

@@ -1,0 +1,18 @@
+#![tactic(auto)]
+//! Spans of pages in segments. A heap cuts the segments that it was given into used spans and free
+//! runs, looks for a free run by its length, and joins what is freed with what lies beside it.
+
+mod free_runs;
+mod heap;
+mod run;
+mod run_list;
+mod segment;
+mod span;
+mod used_spans;
+
+pub use heap::Heap;
+pub use run::{Run, Runs};
+pub use span::Span;
+
+#[cfg(test)]
+mod tests;

@@ -1,0 +1,106 @@
+ghost use Rattle.std.specs.Prelude.{◌≡◌, ℕ, ◌+◌, ◌-◌, ◌^◌, ◌<◌, ◌≤◌, List, length, slice_get};
+ghost use Rattle.span_heap.specs.Pick.{fits};
+ghost use Rattle.span_heap.specs.Runs.{front_of, back_of};
+ghost use Rattle.span_heap.specs.Run.{begins_at, ends_at, is_beside};
+
+use std::marker::Model;
+
+/// Neighbouring pages of one segment.
+#[derive(Clone, Copy, Debug, PartialEq, Eq)]
+pub struct Run {
+    /// The number of the segment.
+    pub segment: u64,
+    /// The first page, counted from 0 in the segment.
+    pub first: u32,
+    /// How many pages there are.
+    pub pages: u32,
+}
+
+impl Run {
+    /// The page behind the last one.
+    fn end(&self) -> u64
+        ensures { result ≡ self.now.first + self.now.pages }
+    {
+        u64::from(self.first) + u64::from(self.pages)
+    }
+
+    /// Its first `pages` pages.
+    pub(crate) fn front(self, pages: u32) -> Run
+        ensures { result ≡ front_of self pages }
+    {
+        Run { pages, ..self }
+    }
+
+    /// Its pages behind the first `pages`.
+    pub(crate) fn back(self, pages: u32) -> Run
+        requires within { pages ≤ self.pages }
+        requires end { self.first + pages < 2 ^ 32 }
+        ensures { result ≡ back_of self pages }
+    {
+        Run {
+            segment: self.segment,
+            first: self.first + pages,
+            pages: self.pages - pages,
+        }
+    }
+
+    /// Whether this run has at least `pages` pages and at most `most`.
+    pub(crate) fn fits(&self, pages: u32, most: u32) -> bool
+        requires { pages ≤ most }
+        ensures { result ≡ fits pages (most - pages) self.now }
+    {
+        pages <= self.pages && self.pages <= most
+    }
+
+    /// Whether this run ends where the other begins.
+    pub(crate) fn is_before(&self, other: &Run) -> bool
+        ensures { result ≡ ends_at other.now.segment other.now.first self.now }
+    {
+        self.segment == other.segment && self.end() == u64::from(other.first)
+    }
+
+    /// Whether this run begins where the other ends.
+    pub(crate) fn is_behind(&self, other: &Run) -> bool
+        ensures { result ≡ begins_at other.now.segment (other.now.first + other.now.pages) self.now }
+    {
+        self.segment == other.segment && u64::from(self.first) == other.end()
+    }
+
+    /// Whether this run stands directly before the other or directly behind it.
+    pub(crate) fn is_beside(&self, other: &Run) -> bool
+        ensures { result ≡ is_beside other.now self.now }
+    {
+        self.is_before(other) || self.is_behind(other)
+    }
+}
+
+/// The free runs of a heap as they were at one moment, the oldest first.
+#[derive(Debug, Drop)]
+pub struct Runs {
+    pub(crate) runs: Vec<Run>,
+}
+
+impl Model for Runs {
+    ghost use Rattle.std.specs.Prelude.{List};
+    ghost use Rattle.span_heap.specs.declared.run.Run.{Run};
+
+    ghost Value = { List Run };
+
+    ghost view = { λ r. r.runs.items };
+}
+
+impl Runs {
+    /// How many runs there are.
+    pub fn len(&self) -> u64
+        ensures { result ≡ length self.now }
+    {
+        self.runs.len() as u64
+    }
+
+    /// The run at this place, counted from 0. `None` comes exactly at a place from `len` on.
+    pub fn get(&self, place: u64) -> Option<Run>
+        ensures { result ≡ slice_get self.now place }
+    {
+        self.runs.get(place as usize).copied()
+    }
+}
