@@ -6,7 +6,7 @@ ghost use Rattle.discard.specs.TileRun.{drives, TileEnds, Reads, StatusFor, most
 use discard_io::{FileFault, Files, Sink, Status, write_all};
 use machine::NoMemory;
 use std::alloc::Global;
-use tile_source::{Image, ImageMaker, PgmFault, Tile, TileMaker, pgm_head, read_pgm};
+use tile_source::{Image, ImageMaker, PgmFault, Tile, TileMaker, pgm_head, read_pgm_in_place};
 
 /// The most bytes that a file has: an image of 8,192 by 8,192 samples of two bytes, and a header.
 const MOST_BYTES: u64 = 134_283_264;
@@ -43,7 +43,7 @@ pub(crate) fn write_tile<O: Sink, F: Files>(
         }
         Err(FileFault::NoMemory) => return Status::NoMemory,
     };
-    let image = match image_of(alloc, bytes) {
+    let image = match image_of(bytes) {
         Ok(image) => image,
         Err(status) => return status,
     };
@@ -57,13 +57,13 @@ pub(crate) fn write_tile<O: Sink, F: Files>(
     }
 }
 
-/// The image in the bytes of a file, which are let go, or the status of a run that ends here.
-fn image_of(alloc: Global, bytes: Vec<u8>) -> Result<Image, Status>
+/// The image in the bytes of a file, whose samples stay where they stand, or the status of a run that ends here.
+fn image_of(bytes: Vec<u8>) -> Result<Image, Status>
     requires { vec_len bytes ≤ most_bytes }
     ensures { Reads result bytes.items }
 {
     let len = bytes.len() as u64;
-    match read_pgm(alloc, &bytes) {
+    match read_pgm_in_place(bytes) {
         Ok(image) => Ok(image),
         Err(fault) => Err(status_of(len, fault)),
     }

@@ -1,4 +1,4 @@
-ghost use Rattle.std.specs.Prelude.{◌≡◌, ℕ, ◌+◌, ◌*◌, ◌<◌, ◌≤◌, length, slice_index};
+ghost use Rattle.std.specs.Prelude.{◌≡◌, ℕ, ◌+◌, ◌*◌, ◌<◌, ◌≤◌, length, take, drop, slice_index};
 
 use std::marker::Model;
 
@@ -11,35 +11,45 @@ pub struct Image {
     width: u32,
     height: u32,
     maxval: u32,
-    samples: Vec<Sample>,
+    /// The samples stand one behind another, and other bytes of a file may stand before and behind them.
+    bytes: Vec<Sample>,
+    /// The place of the first sample.
+    first: usize,
 }
 
 impl Model for Image {
-    ghost use Rattle.std.specs.Prelude.{◌≡◌, ◌*◌, ◌≤◌, length};
+    ghost use Rattle.std.specs.Prelude.{◌+◌, ◌*◌, ◌≤◌, length, take, drop};
     ghost use Rattle.tile_source.specs.Image.{ImageValue, greatest_side};
 
     ghost Value = { ImageValue };
 
-    ghost view = { λ i. record { width = i.width; height = i.height; maxval = i.maxval; samples = i.samples.items } };
+    ghost view = { λ i. record { width = i.width; height = i.height; maxval = i.maxval; samples = take (i.width * i.height) (drop i.first i.bytes.items) } };
 
-    ghost invariant = { λ i. (i.width ≤ greatest_side) × (i.height ≤ greatest_side) × (i.width * i.height ≡ length i.samples.items) };
+    ghost invariant = { λ i. (i.width ≤ greatest_side) × (i.height ≤ greatest_side) × (i.first + i.width * i.height ≤ length i.bytes.items) };
 }
 
 impl Image {
     ghost use Rattle.tile_source.specs.Image.{sample, greatest_side, greatest_sample};
 
-    /// An image of these parts.
-    pub(crate) fn from_parts(width: u32, height: u32, maxval: u32, samples: Vec<Sample>) -> Image
+    /// An image whose samples stand in these bytes, from this place on.
+    pub(crate) fn from_parts(
+        width: u32,
+        height: u32,
+        maxval: u32,
+        bytes: Vec<Sample>,
+        first: usize,
+    ) -> Image
         requires narrow { width ≤ greatest_side }
         requires low { height ≤ greatest_side }
-        requires sized { width * height ≡ length samples.items }
-        ensures { result ≡ record { width = width; height = height; maxval = maxval; samples = samples.items } }
+        requires enough { first + width * height ≤ length bytes.items }
+        ensures { result ≡ record { width = width; height = height; maxval = maxval; samples = take (width * height) (drop first bytes.items) } }
     {
         Image {
             width,
             height,
             maxval,
-            samples,
+            bytes,
+            first,
         }
     }
 
@@ -66,12 +76,23 @@ impl Image {
         self.maxval
     }
 
+    /// All samples, rows from the top.
+    fn samples(&self) -> &[Sample]
+        ensures value { result.now ≡ self.now.samples }
+        ensures len { length result.now ≡ self.now.width * self.now.height }
+        ensures narrow { self.now.width ≤ greatest_side }
+        ensures low { self.now.height ≤ greatest_side }
+    {
+        let count = self.width as usize * self.height as usize;
+        &self.bytes[self.first..][..count]
+    }
+
     /// The sample at a column and a row, and 0 outside of the image.
     pub fn sample(&self, x: u32, y: u32) -> u32
         ensures { result ≡ sample self.now x y }
     {
         if x < self.width && y < self.height {
-            u32::from(self.samples[y as usize * self.width as usize + x as usize])
+            u32::from(self.samples()[y as usize * self.width as usize + x as usize])
         } else {
             0
         }
@@ -85,6 +106,6 @@ impl Image {
         ensures len { length result.now ≡ count }
     {
         let begin = y * self.width as usize + x;
-        &self.samples[begin..begin + count]
+        &self.samples()[begin..begin + count]
     }
 }

@@ -12,7 +12,7 @@ mod tiles;
 pub use fault::PgmFault;
 pub use image::Image;
 pub use maker::ImageMaker;
-pub use pgm::{law_written_is_read, read_pgm};
+pub use pgm::{law_written_is_read, read_pgm, read_pgm_in_place};
 pub use tile::{Tile, TileMaker, pgm_head};
 
 #[cfg(test)]

@@ -1,13 +1,13 @@
-ghost use Rattle.std.specs.Prelude.{◌≡◌, ◌+◌, ◌≤◌, length, drop, min, map, IfOk, false, ℕ, List, ◌++◌, Ok};
+ghost use Rattle.std.specs.Prelude.{◌≡◌, ◌+◌, ◌*◌, ◌<◌, ◌≤◌, length, drop, min, map, IfOk, IfErr, false, ℕ, List, ◌++◌, Ok};
 ghost use Rattle.std.specs.Str.Parse.{digits_value};
 ghost use Rattle.std.specs.Char.{is_ascii_digit};
 ghost use Rattle.std.specs.List.{take_while, prefix_len};
 ghost use Rattle.tile_source.specs.Image.{ImageValue, greatest_side};
-ghost use Rattle.tile_source.specs.Pgm.{ends_line, is_white, white_len, white_at, number_at, behind_digits, side_at, maxval_at, one_white_at, magic_of, header_of, pgm_of, IsReading, written, IsImage};
+ghost use Rattle.tile_source.specs.Pgm.{ends_line, is_white, white_len, white_at, number_at, behind_digits, side_at, maxval_at, one_white_at, magic_of, header_of, raster_of, pgm_of, IsReading, written, IsImage};
 
 use crate::fault::PgmFault;
 use crate::image::{Image, Sample};
-use std::alloc::{AllocError, Global};
+use std::alloc::Global;
 
 // What the header says, and the place of the first sample.
 #[derive(Clone, Copy)]
@@ -16,6 +16,36 @@ struct Head {
     height: u32,
     maxval: u32,
     raster: usize,
+}
+
+impl Head {
+    // How many samples the image has, or Short where fewer bytes are left.
+    fn samples(self, left: usize) -> Result<usize, PgmFault>
+        requires narrow { self.width ≤ greatest_side }
+        requires low { self.height ≤ greatest_side }
+        ensures ok { IfOk result (λ want. (want ≡ self.width * self.height) × (want ≤ left)) }
+        ensures err { IfErr result (λ fault. (left < self.width * self.height) × (fault ≡ PgmFault.Short left (self.width * self.height))) }
+    {
+        let want = self.width as usize * self.height as usize;
+        if left < want {
+            return Err(PgmFault::Short {
+                have: left as u64,
+                want: want as u64,
+            });
+        }
+        Ok(want)
+    }
+
+    // The image whose samples stand in these bytes, from this place on.
+    fn image(self, bytes: Vec<Sample>, first: usize) -> Image
+        requires narrow { self.width ≤ greatest_side }
+        requires low { self.height ≤ greatest_side }
+        requires enough { first + self.width * self.height ≤ length bytes.items }
+        ensures { Ok result ≡ raster_of self (drop first bytes.items) }
+    {
+        let bytes = clamped(bytes, self.maxval);
+        Image::from_parts(self.width, self.height, self.maxval, bytes, first)
+    }
 }
 
 // Whether a byte is CR or LF.
@@ -192,15 +222,14 @@ fn clamp(samples: &mut [Sample], maxval: Sample)
     }
 }
 
-// The samples that a raster holds.
-fn samples_of(alloc: Global, raster: &[u8], maxval: u32) -> Result<Vec<Sample>, AllocError>
-    ensures { IfOk result (λ samples. samples.items ≡ map (λ s. min s maxval) raster.now) }
+// Bytes with each sample brought down to the greatest value.
+fn clamped(mut bytes: Vec<Sample>, maxval: u32) -> Vec<Sample>
+    ensures { result.items ≡ map (λ s. min s maxval) bytes.items }
 {
-    let mut samples = Vec::from_slice(alloc, raster)?;
     if maxval < 255 {
-        clamp(&mut samples, maxval as Sample);
+        clamp(&mut bytes, maxval as Sample);
     }
-    Ok(samples)
+    bytes
 }
 
 /// Reads the first image of a file of the form P5.
@@ -215,15 +244,19 @@ pub fn read_pgm(alloc: Global, bytes: &[u8]) -> Result<Image, PgmFault>
 {
     let head = header_of(bytes)?;
     let left = &bytes[head.raster..];
-    let want = head.width as usize * head.height as usize;
-    if left.len() < want {
-        return Err(PgmFault::Short {
-            have: left.len() as u64,
-            want: want as u64,
-        });
-    }
-    let samples = samples_of(alloc, &left[..want], head.maxval)?;
-    Ok(Image::from_parts(head.width, head.height, head.maxval, samples))
+    let want = head.samples(left.len())?;
+    let samples = Vec::from_slice(alloc, &left[..want])?;
+    Ok(head.image(samples, 0))
+}
+
+/// Reads the first image of a file as `read_pgm` does, in the memory of the file's bytes. It takes no other memory, and no
+/// sample is moved.
+pub fn read_pgm_in_place(bytes: Vec<u8>) -> Result<Image, PgmFault>
+    ensures { result ≡ pgm_of bytes.items }
+{
+    let head = header_of(&bytes)?;
+    head.samples(bytes.len() - head.raster)?;
+    Ok(head.image(bytes, head.raster))
 }
 
 /// A law: what is written as an image is read as that image, whatever bytes follow it.

@@ -1,6 +1,6 @@
 ghost use Rattle.std.specs.Prelude.{◌≤◌, IfOk, vec_len, ◌≡◌};
 
-use crate::{Image, ImageMaker, PgmFault, Tile, TileMaker, pgm_head, read_pgm};
+use crate::{Image, ImageMaker, PgmFault, Tile, TileMaker, pgm_head, read_pgm, read_pgm_in_place};
 use std::alloc::{AllocError, Global};
 use std::process::Abort;
 use std::test::Fail;
@@ -100,6 +100,8 @@ fn images(rt: HostRuntime) -> Result<(), Fail> {
     ];
     for (text, want) in table {
         let image = read_pgm(rt.alloc(), text)?;
+        assert_eq!(rt; parts(&image), want, "{text:?}");
+        let image = read_pgm_in_place(Vec::from_slice(rt.alloc(), text)?)?;
         assert_eq!(rt; parts(&image), want, "{text:?}");
         assert_eq!(rt; image.sample(image.width(), 0), 0);
         assert_eq!(rt; image.sample(0, image.height()), 0);
