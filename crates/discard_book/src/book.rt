@@ -4,7 +4,6 @@ ghost use Rattle.discard_book.specs.Legal.{fits_after, has_room, is_reduced_to, 
 ghost use Rattle.discard_book.specs.Text.{text_of};
 
 use crate::entry::Entry;
-use crate::room::push_ready;
 use crate::segments::{MOST_PAGES, Segments};
 use crate::text::book_text;
 use machine::{LAST_MOMENT, NoMemory};
@@ -153,7 +152,7 @@ impl Book {
         ensures legal { IsLegal self.new.entries }
     {
         self.segments.follow(&entry);
-        push_ready(&mut self.entries, entry);
+        self.entries.push_reserved(entry);
         self.spare -= 1;
     }
 

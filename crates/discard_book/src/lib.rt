@@ -4,7 +4,6 @@
 
 mod book;
 mod entry;
-mod room;
 mod segments;
 #[cfg(test)]
 mod tests;

@@ -3,7 +3,6 @@ ghost use Rattle.discard_book.specs.Table.{numbered, table_after, CanFollow};
 ghost use Rattle.discard_book.specs.Live.{has_number};
 
 use crate::entry::Entry;
-use crate::room::push_ready;
 use machine::NoMemory;
 use std::alloc::Global;
 
@@ -94,7 +93,7 @@ impl Segments {
         ensures len { vec_len self.new.pages ≡ vec_len self.old.pages + 1 }
         ensures capacity { vec_capacity self.old.pages ≤ vec_capacity self.new.pages }
     {
-        push_ready(&mut self.pages, pages);
+        self.pages.push_reserved(pages);
         self.total += u128::from(pages);
     }
 

@@ -15,16 +15,16 @@ pub invariant_of-self : goal.invariant_of-self
 invariant_of-self c =
     let fits = ap (λ (log : Log). fits_after log.entries c.args.entry) c.self.view_is ∙ c.requires.fits in
     let spare = ap (λ (log : Log). log.spare) c.self.view_is in (
-      rw (c.push_ready.ensures.items, c.follow.ensures.pages) (Keeps-push c.self.inside.entries.items c.self.inside.segments.pages.items c.args.entry c.self.invariant.0 fits),
+      rw (c.push_reserved.ensures.items, c.follow.ensures.pages) (Keeps-push c.self.inside.entries.items c.self.inside.segments.pages.items c.args.entry c.self.invariant.0 fits),
       omega (arith, spare, c.self.invariant.1),
       omega (arith, spare, c.self.invariant.2),
     )
 
 pub returns-clause-live : goal.returns-clause-live
 returns-clause-live c =
-    ap live c.push_ready.ensures.items ∙ live-push c.self.inside.entries.items c.args.entry ∙ ap (λ (log : Log). live_after (live log.entries) c.args.entry) c.self.view_is
+    ap live c.push_reserved.ensures.items ∙ live-push c.self.inside.entries.items c.args.entry ∙ ap (λ (log : Log). live_after (live log.entries) c.args.entry) c.self.view_is
 
 pub returns-clause-legal : goal.returns-clause-legal
 returns-clause-legal c =
     let fits = ap (λ (log : Log). fits_after log.entries c.args.entry) c.self.view_is ∙ c.requires.fits in
-    rw c.push_ready.ensures.items (IsLegal-push c.self.inside.entries.items c.args.entry c.self.invariant.0.legal fits)
+    rw c.push_reserved.ensures.items (IsLegal-push c.self.inside.entries.items c.args.entry c.self.invariant.0.legal fits)
