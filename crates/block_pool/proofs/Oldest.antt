@@ -3,7 +3,7 @@ use Rattle.std.specs.List.{All, remove, position, position_or_len}
 use Rattle.std.proofs.lemmas.Bool.Decides.{nat_tests}
 use Rattle.std.proofs.lemmas.Bool.{eqb-true}
 use Rattle.std.proofs.lemmas.List.Quantifiers.{position-Some}
-use Rattle.machine.specs.declared.TheConstants.{PAGE}
+use Rattle.units.specs.declared.TheConstants.{PAGE}
 use Rattle.block_pool.specs.Block.{page_count, IsWiped}
 use Rattle.block_pool.specs.Stock.{is_kept, without_oldest}
 

@@ -1,5 +1,5 @@
 use Rattle.std.specs.Prelude.{◌≡◌, ℕ, ◌*◌, ◌/◌, ◌≤◌, List, length, replicate}
-use Rattle.machine.specs.declared.TheConstants.{PAGE}
+use Rattle.units.specs.declared.TheConstants.{PAGE}
 use Rattle.block_pool.specs.declared.TheConstants.{MOST_PAGES}
 
 -- how many whole pages these bytes are

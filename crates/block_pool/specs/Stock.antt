@@ -1,6 +1,6 @@
 use Rattle.std.specs.Prelude.{ℕ, ◌==◌, nat_lt, Bool, if◌then◌else◌, List, [], ◌∷◌, ◌++◌, length}
 use Rattle.std.specs.List.{list_any}
-use Rattle.machine.specs.Count.{next_count}
+use Rattle.units.specs.Count.{next_count}
 
 -- What is seen of a pool: the pages of each block that it keeps, the oldest first, how many blocks it may keep,
 -- and how many it made.

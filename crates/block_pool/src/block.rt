@@ -1,10 +1,10 @@
 ghost use Rattle.std.specs.Prelude.{◌≡◌, ◌*◌, ◌≤◌, IfOk, replicate};
 ghost use Rattle.std.specs.Borrow.{sem};
 ghost use Rattle.block_pool.specs.Block.{page_count, IsBlock};
-ghost use Rattle.machine.specs.declared.TheConstants.{PAGE};
+ghost use Rattle.units.specs.declared.TheConstants.{PAGE};
 
 use crate::MOST_PAGES;
-use machine::{NoMemory, PAGE};
+use units::{NoMemory, PAGE};
 use std::alloc::Global;
 use std::fmt;
 use std::marker::Model;
@@ -19,7 +19,7 @@ pub struct Block {
 
 impl Model for Block {
     ghost use Rattle.std.specs.Prelude.{◌≡◌, ◌*◌, ◌≤◌, ℕ, List, vec_len};
-    ghost use Rattle.machine.specs.declared.TheConstants.{PAGE};
+    ghost use Rattle.units.specs.declared.TheConstants.{PAGE};
     ghost use Rattle.block_pool.specs.declared.TheConstants.{MOST_PAGES};
 
     ghost Value = { List ℕ };

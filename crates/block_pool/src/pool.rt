@@ -1,12 +1,12 @@
 ghost use Rattle.std.specs.Prelude.{◌≡◌, ◌*◌, ◌≤◌, ◌==◌, false, [], length, position, replicate, is_some, IsOk, IfOk, IfSome, IfNone, OnOk, OnErr, OnSome};
-ghost use Rattle.machine.specs.Count.{next_count};
-ghost use Rattle.machine.specs.declared.TheConstants.{PAGE};
+ghost use Rattle.units.specs.Count.{next_count};
+ghost use Rattle.units.specs.declared.TheConstants.{PAGE};
 ghost use Rattle.block_pool.specs.declared.TheConstants.{MOST_PAGES};
 ghost use Rattle.block_pool.specs.Block.{page_count};
 ghost use Rattle.block_pool.specs.Stock.{is_kept, without_oldest, after_take, after_put};
 
 use crate::block::Block;
-use machine::NoMemory;
+use units::NoMemory;
 use std::alloc::Global;
 use std::collections::VecDeque;
 use std::marker::Model;

@@ -1,6 +1,6 @@
 -- What is told on the report.
 use Rattle.std.specs.Prelude.{◌≡◌, ℕ, ◌⊎◌, List, [], ◌++◌, codes, decimal, Option}
-use Rattle.machine.specs.Count.{HasRisen}
+use Rattle.units.specs.Count.{HasRisen}
 use Rattle.discard_io.specs.declared.status.Status.{Status}
 use Rattle.discard_io.specs.declared.status.Status.TheVariants.{Done, NoMemory, Usage, BadInput, ReadFault, WriteFault, FileFault}
 use Rattle.discard_io.specs.Streams.{appended, WroteFront}

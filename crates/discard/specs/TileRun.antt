@@ -1,6 +1,6 @@
 -- How a run of `tile` ends.
 use Rattle.std.specs.Prelude.{◌≡◌, ℕ, nat_lt, if◌then◌else◌, List, [], ◌∷◌, length, Option, IfSome, Result, Ok, Err}
-use Rattle.machine.specs.Count.{HasRisen}
+use Rattle.units.specs.Count.{HasRisen}
 use Rattle.discard_io.specs.declared.status.Status.{Status}
 use Rattle.discard_io.specs.declared.status.Status.TheVariants.{Done, NoMemory, Usage, BadInput, ReadFault, WriteFault, FileFault}
 use Rattle.discard_io.specs.Streams.{appended, WroteFront, IsAllOf}

@@ -4,7 +4,7 @@ ghost use Rattle.discard.specs.Orders.{IsSide};
 ghost use Rattle.discard.specs.TileRun.{drives, TileEnds, Reads, StatusFor, most_bytes};
 
 use discard_io::{FileFault, Files, Sink, Status, write_all};
-use machine::NoMemory;
+use units::NoMemory;
 use std::alloc::Global;
 use tile_source::{Image, ImageMaker, PgmFault, Tile, TileMaker, pgm_head, read_pgm_in_place};
 

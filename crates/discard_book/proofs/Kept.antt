@@ -2,7 +2,7 @@
 use Rattle.std.proofs.Common.{◌≡◌, ℕ, ◌+◌, ◌-◌, ◌==◌, ◌≤◌, nat_le, true, ◌&&◌, List, [], ◌∷◌, ◌++◌, length, get_or, set, filter, sum, zero, suc, cond, nat_lt, inl, inr, length-append, refl, sym, ap, ◌∙◌, arith}
 use Rattle.std.proofs.lemmas.Bool.{and_parts, cases_lt, eqb-true, leb-true, false≢true}
 use Rattle.std.proofs.lemmas.List.{append-nil, length-set, get_or_past}
-use Rattle.machine.specs.Answers.{is_moment}
+use Rattle.units.specs.Moment.{is_moment}
 use Rattle.discard_book.specs.declared.entry.Entry.{Entry}
 use Rattle.discard_book.specs.declared.entry.Entry.TheVariants.{Grant, Reduced, Purge, Back}
 use Rattle.discard_book.specs.Live.{is_grant, live, has_number, pages_of, granted, grants, live_after, AreDrawn}

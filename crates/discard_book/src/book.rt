@@ -6,7 +6,7 @@ ghost use Rattle.discard_book.specs.Text.{text_of};
 use crate::entry::Entry;
 use crate::segments::{MOST_PAGES, Segments};
 use crate::text::book_text;
-use machine::{LAST_MOMENT, NoMemory};
+use units::{LAST_MOMENT, NoMemory};
 use std::alloc::Global;
 use std::marker::Model;
 

@@ -3,7 +3,7 @@ ghost use Rattle.discard_book.specs.Table.{numbered, table_after, CanFollow};
 ghost use Rattle.discard_book.specs.Live.{has_number};
 
 use crate::entry::Entry;
-use machine::NoMemory;
+use units::NoMemory;
 use std::alloc::Global;
 
 /// The greatest number of pages that a segment has.

@@ -1,5 +1,5 @@
 use crate::{Book, Entry, book_text};
-use machine::{LAST_MOMENT, NoMemory};
+use units::{LAST_MOMENT, NoMemory};
 use std::alloc::Global;
 use std::process::Abort;
 use std::test::Fail;

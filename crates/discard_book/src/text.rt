@@ -3,7 +3,7 @@ ghost use Rattle.discard_book.specs.Text.{spaced_or_dash, words_of, line_of, tex
 
 use crate::entry::Entry;
 use itoa::{Buffer, Integer};
-use machine::NoMemory;
+use units::NoMemory;
 use std::alloc::Global;
 
 /// The text of some entries: for each a line, ended by LF, in their order. A Grant's line is

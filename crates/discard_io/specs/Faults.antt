@@ -1,6 +1,6 @@
 -- How often objects have failed.
 use Rattle.std.specs.Prelude.{ℕ, Result, Ok, Err}
-use Rattle.machine.specs.Count.{next_count}
+use Rattle.units.specs.Count.{next_count}
 use Rattle.discard_io.specs.declared.files.FileFault.{FileFault}
 use Rattle.discard_io.specs.declared.files.FileFault.TheVariants.{Failed, TooLong, NoMemory}
 

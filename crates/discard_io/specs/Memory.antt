@@ -1,6 +1,6 @@
 -- What contracts see of the objects in memory.
 use Rattle.std.specs.Prelude.{ℕ, List, Contains}
-use Rattle.machine.specs.Count.{next_count}
+use Rattle.units.specs.Count.{next_count}
 
 -- the calls of an object: the numbers of those that fail, counted from 1, how many were made, and how often it failed
 pub record Tally : Type 0 where

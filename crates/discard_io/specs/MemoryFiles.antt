@@ -1,7 +1,7 @@
 -- What contracts see of the files in memory.
 use Rattle.std.specs.Prelude.{ℕ, List, Option, option_map, Result}
 use Rattle.std.specs.BTreeMap.{get_by_text}
-use Rattle.machine.specs.Count.{next_count}
+use Rattle.units.specs.Count.{next_count}
 use Rattle.discard_io.specs.declared.files.FileFault.{FileFault}
 use Rattle.discard_io.specs.declared.memory.files.MemFiles.{MemFiles}
 use Rattle.discard_io.specs.Faults.{faults_after}

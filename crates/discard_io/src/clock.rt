@@ -1,6 +1,6 @@
 ghost use Rattle.std.specs.Prelude.{◌≡◌, ◌≤◌};
 
-use machine::LAST_MOMENT;
+use units::LAST_MOMENT;
 use std::marker::Model;
 use std::sync::atomic::{AtomicU64, Ordering};
 
@@ -21,7 +21,7 @@ pub struct CountClock {
 
 impl Model for CountClock {
     ghost use Rattle.std.specs.Prelude.{ℕ, ◌≤◌};
-    ghost use Rattle.machine.specs.declared.TheConstants.{LAST_MOMENT};
+    ghost use Rattle.units.specs.declared.TheConstants.{LAST_MOMENT};
 
     ghost Value = { ℕ };
 

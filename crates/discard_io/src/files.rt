@@ -1,5 +1,5 @@
 ghost use Rattle.std.specs.Prelude.{◌≡◌, Some, ℕ, ◌≤◌, List, Option, IfOk, IsErrOf, vec_len};
-ghost use Rattle.machine.specs.Count.{HasRisen};
+ghost use Rattle.units.specs.Count.{HasRisen};
 ghost use Rattle.discard_io.specs.Streams.{IsAllOf, Exceeds};
 ghost use Rattle.discard_io.specs.declared.files.FileFault.TheVariants as faults;
 

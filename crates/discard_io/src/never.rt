@@ -6,7 +6,7 @@ use crate::memory::remaining::Remaining;
 use crate::sink::Sink;
 use crate::source::Source;
 use crate::status::Failed;
-use machine::NoMemory;
+use units::NoMemory;
 use std::alloc::Global;
 use std::marker::Model;
 

@@ -1,5 +1,5 @@
 ghost use Rattle.std.specs.Prelude.{◌≡◌, Some, ℕ, ◌+◌, ◌-◌, ◌^◌, ◌<◌, ◌≤◌, ◌++◌, List, length, IfOk, OnErr, IsErrOf, vec_len};
-ghost use Rattle.machine.specs.Count.{HasRisen};
+ghost use Rattle.units.specs.Count.{HasRisen};
 ghost use Rattle.discard_io.specs.Streams.{Took, TookAll, TookAtMost, Gave, IsAtEnd};
 ghost use Rattle.discard_io.specs.declared.reading.ReadEnd.TheVariants as ends;
 

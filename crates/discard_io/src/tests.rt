@@ -1,5 +1,5 @@
 use super::*;
-use machine::LAST_MOMENT;
+use units::LAST_MOMENT;
 use std::alloc::Global;
 use std::io::Write;
 use std::process::Abort;

@@ -1,5 +1,5 @@
 ghost use Rattle.std.specs.Prelude.{◌≡◌, ℕ, ◌≤◌, OnOk, OnErr};
-ghost use Rattle.machine.specs.Count.{HasRisen};
+ghost use Rattle.units.specs.Count.{HasRisen};
 ghost use Rattle.discard_io.specs.Streams.{appended, WroteFront};
 
 use crate::sink::Sink;

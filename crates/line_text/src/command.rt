@@ -1,7 +1,7 @@
 ghost use Rattle.std.specs.Prelude.{◌≡◌};
 ghost use Rattle.line_text.specs.Script.{is_grant};
 
-use machine::Bytes;
+use units::Bytes;
 
 /// A command of a script. Segments are told by their numbers, from the oldest grant on; pages and
 /// bytes are counted from the first of the segment, which is 0.

@@ -4,7 +4,7 @@ ghost use Rattle.line_text.specs.declared.fault.ScriptFault.TheVariants as Scrip
 ghost use Rattle.line_text.specs.Script.{fault_at};
 
 use crate::cause::Cause;
-use machine::NoMemory;
+use units::NoMemory;
 use std::alloc::{AllocError, AllocFailed};
 
 /// Why a script was not read.

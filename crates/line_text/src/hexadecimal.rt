@@ -2,7 +2,7 @@ ghost use Rattle.std.specs.Prelude.{◌≡◌, IfOk};
 ghost use Rattle.line_text.specs.Hex.{hex_of};
 
 use hex::FromHexError;
-use machine::{Bytes, NoMemory};
+use units::{Bytes, NoMemory};
 use std::alloc::Global;
 
 /// The most digits that a word of bytes has.

@@ -3,7 +3,7 @@ ghost use Rattle.line_text.specs.Lines.{lines_of, words_of, is_feed, is_blank, i
 ghost use Rattle.line_text.specs.Spans.{lines_at, AreWithin};
 
 use crate::line::{Cut, Span};
-use machine::NoMemory;
+use units::NoMemory;
 use std::alloc::Global;
 
 /// Space, TAB and CR stand between words.

@@ -9,7 +9,7 @@ use crate::fault::LineFault;
 use crate::hexadecimal::read_hex;
 use crate::lines::split_word;
 use crate::number::read_number;
-use machine::LAST_MOMENT;
+use units::LAST_MOMENT;
 use std::alloc::Global;
 
 fn next_word(line: &[u8]) -> Result<(&[u8], &[u8]), Cause>

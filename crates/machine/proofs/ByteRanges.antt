@@ -2,12 +2,12 @@
 use Rattle.std.proofs.Common.{◌≡◌, ℕ, ◌+◌, ◌-◌, ◌*◌, ◌/◌, ◌<◌, ◌≤◌, Bool, true, false, List, length, get_or, refl, sym, ap, ◌∙◌, ⊎_elim, arith}
 use Rattle.std.proofs.lemmas.Bool.{cases_lt}
 use Rattle.std.proofs.lemmas.List.{get_or_past}
-use Rattle.machine.specs.declared.TheConstants.{PAGE}
+use Rattle.units.specs.declared.TheConstants.{PAGE}
 use Rattle.machine.specs.History.{History, is_held}
 use Rattle.machine.specs.Answers.{bytes_held}
 use Rattle.machine.specs.Kept.{Kept}
 use Rattle.machine.specs.Segments.{Shows}
-use Rattle.machine.proofs.Ranges.{all_pass, one_fails}
+use Rattle.units.proofs.Ranges.{all_pass, one_fails}
 
 -- a range whose last byte lies past the end of the segment
 pub bytes_past : (h : History) (s place count : ℕ) (kept : Kept) → Shows h s kept → 0 < count → length kept.held ≤ (place + (count - 1)) / PAGE → bytes_held h s place count ≡ false

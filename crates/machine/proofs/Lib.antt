@@ -1,4 +1,3 @@
-pub mod Ranges
 pub mod Untouched
 pub mod Steps
 pub mod Told

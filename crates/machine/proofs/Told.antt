@@ -6,11 +6,13 @@ use Rattle.std.proofs.Math.Bool.{and-true as and_true_right, and-false as and_fa
 use Rattle.std.proofs.lemmas.List.{get_or_past, take-append-drop, append-nil}
 use Rattle.machine.specs.declared.event.Event.TheVariants.{Grant, Lock, Unlock, Write, Try, Back}
 use Rattle.machine.specs.declared.event.Answer.TheVariants.{Granted, Held, Gone, Written, Counted, Purged, Misuse}
-use Rattle.machine.specs.History.{History, is_within, is_begun, pages_of, is_ended, is_gone, is_held, stamp_of, known_of, put}
-use Rattle.machine.specs.Answers.{is_moment, is_plain, can_lock, can_unlock, can_write, can_try, are_free, are_held, bytes_held, held_count, staying, unlocked, tried, answer_of}
+use Rattle.machine.specs.History.{History, is_begun, pages_of, is_ended, is_gone, is_held, stamp_of, known_of, put}
+use Rattle.units.specs.Range.{is_within}
+use Rattle.machine.specs.Answers.{is_plain, can_lock, can_unlock, can_write, can_try, are_free, are_held, bytes_held, held_count, staying, unlocked, tried, answer_of}
+use Rattle.units.specs.Moment.{is_moment}
 use Rattle.machine.specs.Kept.{Kept}
 use Rattle.machine.specs.Segments.{Shows}
-use Rattle.machine.proofs.Ranges.{all_pass, one_fails, counted_flags}
+use Rattle.units.proofs.Ranges.{all_pass, one_fails, counted_flags}
 
 and_true : (a b : Bool) → a ≡ true → b ≡ true → (a && b) ≡ true
 and_true true true p q = refl

@@ -1,11 +1,12 @@
 -- An event on another segment changes nothing of a segment, and neither does a misuse.
 use Rattle.std.proofs.Common.{◌≡◌, ℕ, ◌==◌, ◌*◌, nat_lt, max, false, not, ◌&&◌, ◌||◌, cond, ◌∷◌, Some, replicate, refl, sym, ap, ◌∙◌}
-use Rattle.machine.specs.declared.TheConstants.{PAGE}
+use Rattle.units.specs.declared.TheConstants.{PAGE}
 use Rattle.machine.specs.declared.event.Event.{Event}
 use Rattle.machine.specs.declared.event.Event.TheVariants.{Grant, Lock, Unlock, Write, Try, Back}
 use Rattle.machine.specs.declared.event.Answer.{Answer}
 use Rattle.machine.specs.declared.event.Answer.TheVariants.{Granted, Held, Idle, StillHeld, Written, Taken, Used, Counted, Purged, Misuse}
-use Rattle.machine.specs.History.{History, is_within, is_begun, pages_of, is_ended, is_gone, is_held, stamp_of, known_of, put, left_of, number_of}
+use Rattle.machine.specs.History.{History, is_begun, pages_of, is_ended, is_gone, is_held, stamp_of, known_of, put, left_of, number_of}
+use Rattle.units.specs.Range.{is_within}
 use Rattle.machine.specs.Kept.{Kept}
 use Rattle.machine.specs.Segments.{Shows, IsUnknown}
 

@@ -9,7 +9,8 @@ use Rattle.machine.specs.declared.event.Event.TheVariants.{Grant, Lock, Unlock, 
 use Rattle.machine.specs.declared.event.Answer.{Answer}
 use Rattle.machine.specs.declared.event.Answer.TheVariants.{Granted, Held, Gone, Written, Counted, Purged, Misuse}
 use Rattle.machine.specs.History.{History, number_of, is_begun, pages_of, is_ended, is_gone, is_held, stamp_of, known_of}
-use Rattle.machine.specs.Answers.{answered_after, answered, answer_of, is_moment, are_free, are_held, bytes_held, staying, held_count, unlocked, tried}
+use Rattle.machine.specs.Answers.{answered_after, answered, answer_of, are_free, are_held, bytes_held, staying, held_count, unlocked, tried}
+use Rattle.units.specs.Moment.{is_moment}
 use Rattle.machine.specs.Kept.{Kept}
 use Rattle.machine.specs.Segments.{Shows, IsUnknown, ShowsAll, fresh, kept_at}
 use Rattle.machine.proofs.Untouched.{shows_other, unknown_other, shows_misuse, unknown_misuse}

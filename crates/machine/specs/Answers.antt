@@ -1,15 +1,13 @@
 use Rattle.std.specs.Prelude.{ℕ, ◌+◌, ◌/◌, ◌==◌, nat_lt, nat_le, max, Bool, true, not, ◌&&◌, ◌||◌, if◌then◌else◌, List, [], ◌∷◌, length, Option, unwrap_or, map, filter, sum, count_by}
 use Rattle.std.specs.List.{range_with_len, list_all}
-use Rattle.machine.specs.declared.TheConstants.{PAGE, LAST_MOMENT}
+use Rattle.units.specs.Moment.{is_moment}
+use Rattle.units.specs.declared.TheConstants.{PAGE, MOST_PAGES}
 use Rattle.machine.specs.declared.event.Event.{Event}
 use Rattle.machine.specs.declared.event.Event.TheVariants.{Grant, Lock, Unlock, Write, Try, Back}
 use Rattle.machine.specs.declared.event.Answer.{Answer}
 use Rattle.machine.specs.declared.event.Answer.TheVariants.{Granted, Held, Gone, Idle, StillHeld, Written, Taken, Used, Counted, Purged, Misuse}
-use Rattle.machine.specs.History.{History, is_within, is_begun, pages_of, is_ended, is_gone, is_held, stamp_of, known_of, left_of}
-
--- a moment is a number from 1 to the last moment
-abbrev pub is_moment : ℕ → Bool
-is_moment t = nat_le 1 t && nat_le t LAST_MOMENT
+use Rattle.machine.specs.History.{History, is_begun, pages_of, is_ended, is_gone, is_held, stamp_of, known_of, left_of}
+use Rattle.units.specs.Range.{is_within}
 
 -- granted, and not given back
 abbrev pub is_plain : History → ℕ → Bool
@@ -37,7 +35,7 @@ bytes_held h s place count = list_all (λ byte. is_held h s (byte / PAGE)) (rang
 
 -- a Grant needs a new number, a client, and 1 to 65,536 pages
 abbrev pub can_grant : History → ℕ → ℕ → ℕ → Bool
-can_grant h s client pages = not (is_begun h s) && nat_lt 0 client && nat_le 1 pages && nat_le pages 65536
+can_grant h s client pages = not (is_begun h s) && nat_lt 0 client && nat_le 1 pages && nat_le pages MOST_PAGES
 
 -- a Lock needs a plain segment, and at least one page, each of them in the segment and free
 abbrev pub can_lock : History → ℕ → ℕ → ℕ → Bool

@@ -1,5 +1,6 @@
 use Rattle.std.specs.Prelude.{ℕ, ◌+◌, ◌*◌, ◌==◌, nat_lt, nat_le, max, Bool, false, not, ◌&&◌, ◌||◌, if◌then◌else◌, List, [], ◌∷◌, ◌++◌, length, take, drop, replicate, Option, Some, None}
-use Rattle.machine.specs.declared.TheConstants.{PAGE}
+use Rattle.units.specs.Range.{is_within}
+use Rattle.units.specs.declared.TheConstants.{PAGE}
 use Rattle.machine.specs.declared.event.Event.{Event}
 use Rattle.machine.specs.declared.event.Event.TheVariants.{Grant, Lock, Unlock, Write, Try, Back}
 use Rattle.machine.specs.declared.event.Answer.{Answer}
@@ -8,10 +9,6 @@ use Rattle.machine.specs.declared.event.Answer.TheVariants.{Granted, Held, Idle,
 -- what happened: events, each with its answer, the latest first
 abbrev pub History : Type 0
 History = List (Event × Answer)
-
--- the range of pages has this page
-abbrev pub is_within : ℕ → ℕ → ℕ → Bool
-is_within first count page = nat_le first page && nat_lt page (first + count)
 
 -- the segment was granted
 unfoldable pub is_begun : History → ℕ → Bool

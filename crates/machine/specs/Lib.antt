@@ -1,4 +1,3 @@
-pub mod Count
 pub mod History
 pub mod Answers
 pub mod Kept

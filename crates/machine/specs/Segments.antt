@@ -1,5 +1,5 @@
 use Rattle.std.specs.Prelude.{◌≡◌, ℕ, ◌*◌, true, false, List, length, Option, None, MatchOption, slice_index_or, replicate}
-use Rattle.machine.specs.declared.TheConstants.{PAGE}
+use Rattle.units.specs.declared.TheConstants.{PAGE}
 use Rattle.std.specs.Ordering.{nat_cmp}
 use Rattle.std.specs.BTreeMap.{is_at}
 use Rattle.std.specs.Map.{lookup}

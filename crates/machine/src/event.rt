@@ -1,7 +1,7 @@
 ghost use Rattle.std.specs.Prelude.{◌≡◌};
 ghost use Rattle.machine.specs.History.{number_of};
 
-use crate::bytes::Bytes;
+use units::Bytes;
 
 /// What may happen to segments. A number names a segment; pages and bytes are counted from 0 in it.
 #[derive(Debug, Drop)]

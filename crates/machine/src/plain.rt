@@ -5,14 +5,11 @@ ghost use Rattle.machine.specs.Answers.{answer_of, answer, left, readable};
 ghost use Rattle.machine.specs.Segments.{ShowsAll, StandsFor, kept_at};
 
 use crate::event::{Answer, Event};
-use crate::memory::NoMemory;
 use crate::segment::Segment;
 use std::alloc::Global;
 use std::collections::BTreeMap;
 use std::marker::Model;
-
-/// How many pages a segment may have.
-const MOST_PAGES: u32 = 65536;
+use units::{MOST_PAGES, NoMemory};
 
 /// The segments of a machine of its own, which answers each event as the definition says. It keeps
 /// each granted segment's pages and bytes as they are now, and nothing of the events before.

@@ -1,14 +1,15 @@
 ghost use Rattle.std.specs.Prelude.{◌≡◌, ℕ, ◌+◌, ◌*◌, ◌<◌, ◌≤◌, Bool, true, false, not, ◌&&◌, List, ◌∷◌, length, take, drop, IfOk, count_by, slice_index_or};
-ghost use Rattle.machine.specs.History.{History, number_of};
-ghost use Rattle.machine.specs.Answers.{answer_of, is_moment, is_live, can_lock, can_unlock, can_write, can_try, can_give_back, bytes_held};
+ghost use Rattle.machine.specs.History.{History, number_of, put};
+ghost use Rattle.units.specs.declared.TheConstants.{MOST_PAGES};
+ghost use Rattle.machine.specs.Answers.{answer_of, is_live, can_lock, can_unlock, can_write, can_try, can_give_back, bytes_held};
+ghost use Rattle.units.specs.Moment.{is_moment};
 ghost use Rattle.machine.specs.Segments.{Shows, fresh};
 
 use crate::event::{Answer, Event};
-use crate::memory::NoMemory;
-use crate::pages::{all_are, put, set_all};
-use crate::{LAST_MOMENT, PAGE};
 use std::alloc::Global;
 use std::marker::Model;
+use units::pages::{all_are, set_all};
+use units::{NoMemory, PAGE, is_moment};
 
 /// One granted segment.
 #[derive(Drop)]
@@ -26,27 +27,20 @@ pub(crate) struct Segment {
 
 impl Model for Segment {
     ghost use Rattle.std.specs.Prelude.{◌≡◌, ◌*◌, ◌≤◌, vec_len, count_by};
-    ghost use Rattle.machine.specs.declared.TheConstants.{PAGE};
+    ghost use Rattle.units.specs.declared.TheConstants.{PAGE, MOST_PAGES};
     ghost use Rattle.machine.specs.Kept.{Kept};
 
     ghost Value = { Kept };
 
     ghost view = { λ s. record { held = s.held.items; stamp = s.stamp; known = s.known; bytes = s.bytes.items; gone = s.gone; ended = s.ended } };
 
-    ghost invariant = { λ s. (s.held_count ≡ count_by (λ b. b) s.held.items) × (vec_len s.bytes ≡ PAGE * vec_len s.held) × (vec_len s.held ≤ 65536) };
-}
-
-/// Whether a number is a moment.
-fn is_moment(at: u64) -> bool
-    ensures { result ≡ is_moment at }
-{
-    (1..=LAST_MOMENT).contains(&at)
+    ghost invariant = { λ s. (s.held_count ≡ count_by (λ b. b) s.held.items) × (vec_len s.bytes ≡ PAGE * vec_len s.held) × (vec_len s.held ≤ MOST_PAGES) };
 }
 
 impl Segment {
     /// A new segment: all its pages are held, and all its bytes are zero.
     pub(crate) fn new(alloc: Global, pages: u32) -> Result<Segment, NoMemory>
-        requires { pages ≤ 65536 }
+        requires { pages ≤ MOST_PAGES }
         ensures { IfOk result (λ segment. segment ≡ fresh pages) }
     {
         let count = pages as usize;
@@ -243,4 +237,12 @@ impl Segment {
         }
         true
     }
+}
+
+/// Puts bytes at a place.
+fn put(old: &mut [u8], place: usize, bytes: &[u8])
+    requires { place + length bytes.now ≤ length old.old }
+    ensures { old.new ≡ put place bytes.now old.old }
+{
+    old[place..place + bytes.len()].copy_from_slice(bytes);
 }

@@ -1,9 +1,9 @@
 ghost use Rattle.std.specs.Prelude.{◌≡◌, ℕ, ◌+◌, Bool, true, false, ◌↔◌, if◌then◌else◌, IfOk, IsTrue, replicate};
-ghost use Rattle.machine.specs.History.{is_within};
+ghost use Rattle.units.specs.Range.{is_within};
 ghost use Rattle.page_locks.specs.Locks.{is_page_locked, page_count, locked_count, AreFree, AreLocked, IsRange};
 
-use machine::NoMemory;
-use machine::pages::{all_are, set_all};
+use units::NoMemory;
+use units::pages::{all_are, set_all};
 use std::alloc::Global;
 use std::marker::Model;
 

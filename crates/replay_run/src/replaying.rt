@@ -6,7 +6,7 @@ use crate::config::ReplayCfg;
 use crate::run::replies;
 use discard_io::{ReadEnd, Sink, Source, Status, read_to_end, write_all};
 use line_text::{ScriptFault, law_in_range, read_script};
-use machine::{Bytes, NoMemory};
+use units::{Bytes, NoMemory};
 use std::alloc::Global;
 
 /// The most bytes that a script has.

@@ -11,7 +11,7 @@ use crate::run_list::{make_room, pages_in, remove_runs};
 use crate::segment::{Segment, remove_segment};
 use crate::span::Span;
 use crate::used_spans::take_out;
-use machine::NoMemory;
+use units::NoMemory;
 use std::alloc::Global;
 use std::marker::Model;
 

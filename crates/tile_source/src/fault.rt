@@ -1,4 +1,4 @@
-use machine::NoMemory as WantOfMemory;
+use units::NoMemory as WantOfMemory;
 use std::alloc::AllocError;
 use std::error::Error;
 use std::fmt;

@@ -1,7 +1,7 @@
 ghost use Rattle.std.specs.Prelude.{◌≡◌, IfOk};
 ghost use Rattle.tile_source.specs.Pgm.{head};
 
-use machine::NoMemory;
+use units::NoMemory;
 use std::alloc::Global;
 
 /// A tile: its zoom, at most 6, and its column and row among the tiles of that zoom, each at most 65,535. One pixel at
@@ -19,7 +19,7 @@ pub struct Tile {
 /// What makes tiles, all of one length.
 pub trait TileMaker {
     ghost use Rattle.std.specs.Prelude.{◌≡◌, ℕ, List, length};
-    ghost use Rattle.machine.specs.Count.{next_count};
+    ghost use Rattle.units.specs.Count.{next_count};
     ghost use Rattle.tile_source.specs.declared.tile.Tile.{Tile};
     ghost use Rattle.tile_source.specs.Tile.{IsTile};
 

@@ -1,5 +1,5 @@
 ghost use Rattle.std.specs.Prelude.{◌≡◌, ◌↔◌, ◌^◌, ◌<◌, ◌≤◌, IsTrue, IfOk, if◌then◌else◌};
-ghost use Rattle.machine.specs.Count.{next_count};
+ghost use Rattle.units.specs.Count.{next_count};
 ghost use Rattle.discard_io.specs.Memory.{Tally, no_calls, NextFails, one_more, one_more_failed};
 
 use std::alloc::{AllocError, Global};

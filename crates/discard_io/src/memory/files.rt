@@ -2,7 +2,7 @@ ghost use Rattle.std.specs.Prelude.{◌≡◌, ◌↔◌, ◌⊎◌, ◌≤◌, 
 
 use super::calls::Calls;
 use crate::files::{FileFault, Files};
-use machine::NoMemory;
+use units::NoMemory;
 use std::alloc::Global;
 use std::collections::BTreeMap;
 

@@ -4,7 +4,7 @@ ghost use Rattle.discard_io.specs.Memory.{Writing, no_calls, NextFails, one_more
 use super::calls::Calls;
 use crate::sink::Sink;
 use crate::status::Failed;
-use machine::NoMemory;
+use units::NoMemory;
 use std::alloc::Global;
 use std::marker::Model;
 

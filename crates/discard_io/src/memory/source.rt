@@ -5,7 +5,7 @@ use super::calls::Calls;
 use super::remaining::Remaining;
 use crate::source::Source;
 use crate::status::Failed;
-use machine::NoMemory;
+use units::NoMemory;
 use std::alloc::Global;
 use std::cmp;
 use std::marker::Model;

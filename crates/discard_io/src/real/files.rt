@@ -1,5 +1,5 @@
 ghost use Rattle.std.specs.Prelude.{◌≡◌, ◌≤◌, ◌<◌, ◌^◌, ℕ, None, length, IfOk, IfSome, IsErrOf, MatchOption, vec_len};
-ghost use Rattle.machine.specs.Count.{HasRisen};
+ghost use Rattle.units.specs.Count.{HasRisen};
 ghost use Rattle.discard_io.specs.Faults.{faults_after};
 ghost use Rattle.discard_io.specs.Streams.{IsAllOf};
 

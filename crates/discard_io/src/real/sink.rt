@@ -1,6 +1,6 @@
 ghost use Rattle.std.specs.Prelude.{◌≡◌, ◌≤◌, ◌<◌, None, length, take, is_ok, if◌then◌else◌, IfOk};
 ghost use Rattle.std.specs.Io.KnownBytes.{Appends};
-ghost use Rattle.machine.specs.Count.{next_count};
+ghost use Rattle.units.specs.Count.{next_count};
 
 use crate::sink::Sink;
 use crate::status::Failed;

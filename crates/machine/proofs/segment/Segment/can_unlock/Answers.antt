@@ -1,5 +1,5 @@
 use Rattle.std.proofs.Common.{◌≡◌, true, false, length, sym, ap, ◌∙◌, arith}
-use Rattle.machine.specs.Answers.{is_moment}
+use Rattle.units.specs.Moment.{is_moment}
 use Rattle.machine.specs.Kept.{Kept}
 use Rattle.machine.proofs.Told.{flags_told, held_told, past_the_end, unlock_told}
 use Rattle.machine.proofs.segment.Segment.can_unlock.Goals as goal

@@ -3,7 +3,7 @@ use Rattle.machine.specs.declared.event.Answer.TheVariants.{Held, Gone}
 use Rattle.machine.specs.declared.event.Event.TheVariants.{Lock}
 use Rattle.std.specs.Vec.{with_items}
 use Rattle.std.proofs.lemmas.List.{with_items_is}
-use Rattle.machine.specs.History.{is_within}
+use Rattle.units.specs.Range.{is_within}
 use Rattle.machine.specs.Kept.{Kept}
 use Rattle.machine.specs.Segments.{Shows}
 use Rattle.machine.specs.contracts.segment.Segment.{the_view}

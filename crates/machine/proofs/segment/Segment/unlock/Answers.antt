@@ -4,7 +4,7 @@ use Rattle.std.proofs.lemmas.List.{with_items_is}
 use Rattle.std.proofs.lemmas.Bool.{ne_eqb}
 use Rattle.machine.specs.declared.event.Answer.TheVariants.{Idle, StillHeld}
 use Rattle.machine.specs.declared.event.Event.TheVariants.{Unlock}
-use Rattle.machine.specs.History.{is_within}
+use Rattle.units.specs.Range.{is_within}
 use Rattle.machine.specs.Answers.{staying}
 use Rattle.machine.specs.Kept.{Kept}
 use Rattle.machine.specs.Segments.{Shows}

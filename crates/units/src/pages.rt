@@ -1,6 +1,6 @@
 //! Flags of the pages of a segment, one for each page: whether it is held.
 ghost use Rattle.std.specs.Prelude.{◌≡◌, ℕ, ◌+◌, ◌<◌, ◌≤◌, Bool, true, false, not, ◌&&◌, if◌then◌else◌, length, slice_index_or, count_by};
-ghost use Rattle.machine.specs.History.{is_within, put};
+ghost use Rattle.units.specs.Range.{is_within};
 
 /// Whether each page from `first` to before `end` is as `held` says.
 pub fn all_are(pages: &[bool], first: usize, end: usize, held: bool) -> bool
@@ -26,12 +26,4 @@ pub fn set_all(pages: &mut [bool], first: usize, count: usize, held: bool)
     for page in first..first + count {
         pages[page] = held;
     }
-}
-
-/// Puts bytes at a place.
-pub(crate) fn put(old: &mut [u8], place: usize, bytes: &[u8])
-    requires { place + length bytes.now ≤ length old.old }
-    ensures { old.new ≡ put place bytes.now old.old }
-{
-    old[place..place + bytes.len()].copy_from_slice(bytes);
 }

@@ -1,6 +1,6 @@
 use Rattle.std.proofs.Common.{◌≡◌, ℕ, ◌+◌, ◌-◌, false, if◌then◌else◌, slice_index_or, count_by}
-use Rattle.machine.specs.History.{is_within}
-use Rattle.machine.proofs.pages.set_all.Given as goal
+use Rattle.units.specs.Range.{is_within}
+use Rattle.units.proofs.pages.set_all.Given as goal
 
 abbrev pub invariant-loop-page : goal.invariant-loop-page
 invariant-loop-page l = record {

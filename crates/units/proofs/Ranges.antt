@@ -5,7 +5,7 @@ use Rattle.std.proofs.lemmas.List.Sums.{sum_by-set, sum_by-cons}
 use Rattle.std.proofs.lemmas.Bool.{cases_eq, false≢true}
 use Rattle.std.proofs.Math.Bool.{and-false as and_false}
 use Rattle.std.proofs.lemmas.Bool.Decides.{nat_tests}
-use Rattle.machine.specs.History.{is_within}
+use Rattle.units.specs.Range.{is_within}
 
 -- the page after a range joins it
 pub within_more : (first i page : ℕ) → first ≤ i → page ≢ i → is_within first (i + 1 - first) page ≡ is_within first (i - first) page

@@ -1,6 +1,6 @@
 use Rattle.std.proofs.Common.{◌≡◌, ◌<◌, ◌≤◌, Bool, false, not, cond, length, get_or, count_by, ap, ◌∙◌, arith}
-use Rattle.machine.proofs.Ranges.{after_more, counted_more, within_not}
-use Rattle.machine.proofs.pages.set_all.Goals as goal
+use Rattle.units.proofs.Ranges.{after_more, counted_more, within_not}
+use Rattle.units.proofs.pages.set_all.Goals as goal
 
 pub loop-page-preserved : goal.loop-page-preserved
 loop-page-preserved c =
