@@ -22,6 +22,12 @@ pages_of [] s = 0
 pages_of ((Grant id client pages, Granted drawn) ∷ before) s = if id == s then pages else pages_of before s
 pages_of (other ∷ before) s = pages_of before s
 
+-- the client that the segment was granted to; 0 before it is granted
+unfoldable pub client_of : History → ℕ → ℕ
+client_of [] s = 0
+client_of ((Grant id client pages, Granted drawn) ∷ before) s = if id == s then client else client_of before s
+client_of (other ∷ before) s = client_of before s
+
 -- the segment was given back
 unfoldable pub is_ended : History → ℕ → Bool
 is_ended [] s = false

@@ -2,3 +2,4 @@ pub mod History
 pub mod Answers
 pub mod Kept
 pub mod Segments
+pub mod Word
