@@ -36,6 +36,8 @@ impl NeverSource {
 impl Source for NeverSource {
     ghost left = { λ left. Some left };
 
+    ghost reads = { λ _. None };
+
     ghost faults = { λ _. 0 };
 
     fn read(&mut self, buf: &mut [u8]) -> Result<usize, Failed>
@@ -60,6 +62,8 @@ impl NeverSink {
 
 impl Sink for NeverSink {
     ghost written = { λ _. None };
+
+    ghost writes = { λ _. None };
 
     ghost faults = { λ _. 0 };
 

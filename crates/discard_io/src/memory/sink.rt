@@ -52,6 +52,8 @@ impl MemSink {
 impl Sink for MemSink {
     ghost written = { λ s. Some s.written };
 
+    ghost writes = { λ s. Some s.calls.made };
+
     ghost faults = { λ s. s.calls.faults };
 
     fn write(&mut self, piece: &[u8]) -> Result<usize, Failed>

@@ -45,6 +45,8 @@ impl MemSource {
 impl Source for MemSource {
     ghost left = { λ s. Some s.left };
 
+    ghost reads = { λ s. Some s.calls.made };
+
     ghost faults = { λ s. s.calls.faults };
 
     fn read(&mut self, buf: &mut [u8]) -> Result<usize, Failed>

@@ -33,6 +33,8 @@ impl<W: Write> Sink for StdSink<W> {
 
     ghost written = { λ _. None };
 
+    ghost writes = { λ _. None };
+
     ghost faults = { λ sink. sink_faults sink };
 
     fn write(&mut self, piece: &[u8]) -> Result<usize, Failed>

@@ -31,6 +31,8 @@ impl<R: Read> Source for StdSource<R> {
 
     ghost left = { λ _. None };
 
+    ghost reads = { λ _. None };
+
     ghost faults = { λ source. source_faults source };
 
     fn read(&mut self, buf: &mut [u8]) -> Result<usize, Failed>
