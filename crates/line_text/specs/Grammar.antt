@@ -1,8 +1,10 @@
 -- The plain grammar of scripts, to which the reading of lines is held.
 use Rattle.std.specs.Prelude.{◌≡◌, ℕ, ◌<◌, ◌≤◌, ◌⊎◌, List, [], ◌∷◌, ◌++◌, length, Ok, Err}
+use Rattle.line_text.specs.declared.limits.TheConstants.{MOST_SCRIPT_BYTES, MOST_COMMANDS, MOST_GRANTS}
 use Rattle.line_text.specs.Lines.{kept_lines}
 use Rattle.line_text.specs.Script.{Commands, command_of, next_command, grants, cause_number}
 use Rattle.line_text.specs.declared.cause.Cause.{Cause}
+use Rattle.line_text.specs.declared.cause.Cause.TheVariants as cause
 
 -- the lines are these commands, each with the number of its line
 abbrev pub Spells : List (ℕ × List (List ℕ)) → Commands → Type 0
@@ -13,11 +15,11 @@ Spells (line ∷ lines) (c ∷ commands) = (line.0 ≡ c.0) × (command_of line.
 
 -- at most 4,096 commands, of which at most 1,024 are grants
 abbrev pub AreFew : Commands → Type 0
-AreFew commands = (length commands ≤ 4096) × (grants commands ≤ 1024)
+AreFew commands = (length commands ≤ MOST_COMMANDS) × (grants commands ≤ MOST_GRANTS)
 
 -- the text is short, its lines are these commands, and they are few
 pub record IsSpelled (text : List ℕ) (commands : Commands) : Type 0 where
-  pub short : length text ≤ 1048576
+  pub short : length text ≤ MOST_SCRIPT_BYTES
   pub lines : Spells (kept_lines text) commands
   pub few : AreFew commands
 
@@ -34,6 +36,7 @@ pub record IsFirstRefused (lines : List (ℕ × List (List ℕ))) (number : ℕ)
 
 -- the text is too long, or it has a first line that is refused
 abbrev pub IsFaulty : List ℕ → ℕ → ℕ → Type 0
-IsFaulty text place cause =
-    ((1048576 < length text) × (place ≡ 1048576) × (cause ≡ 6))
-    ⊎ ((length text ≤ 1048576) × ((why : Cause) × (cause ≡ cause_number why) × IsFirstRefused (kept_lines text) place why))
+IsFaulty text place told =
+    ((MOST_SCRIPT_BYTES < length text) × (place ≡ MOST_SCRIPT_BYTES) × (told ≡ cause_number cause.Long))
+    ⊎ ((length text ≤ MOST_SCRIPT_BYTES)
+    × ((why : Cause) × (told ≡ cause_number why) × IsFirstRefused (kept_lines text) place why))

@@ -4,8 +4,8 @@ ghost use Rattle.line_text.specs.declared.fault.ScriptFault.TheVariants as Scrip
 ghost use Rattle.line_text.specs.Script.{fault_at};
 
 use crate::cause::Cause;
-use units::NoMemory;
 use std::alloc::{AllocError, AllocFailed};
+use units::NoMemory;
 
 /// Why a script was not read.
 #[derive(Clone, Copy, Debug, PartialEq, Eq)]

@@ -3,8 +3,8 @@ ghost use Rattle.line_text.specs.Lines.{lines_of, words_of, is_feed, is_blank, i
 ghost use Rattle.line_text.specs.Spans.{lines_at, AreWithin};
 
 use crate::line::{Cut, Span};
-use units::NoMemory;
 use std::alloc::Global;
+use units::NoMemory;
 
 /// Space, TAB and CR stand between words.
 fn is_blank(byte: u8) -> bool

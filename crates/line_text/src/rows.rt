@@ -7,10 +7,11 @@ use crate::cause::Cause;
 use crate::command::Command;
 use crate::fault::LineFault;
 use crate::hexadecimal::read_hex;
+use crate::limits::{LAST_CLIENT, MOST_MOVED_BYTES, MOST_SEGMENT_PAGES};
 use crate::lines::split_word;
 use crate::number::read_number;
-use units::LAST_MOMENT;
 use std::alloc::Global;
+use units::{LAST_MOMENT, PAGE};
 
 fn next_word(line: &[u8]) -> Result<(&[u8], &[u8]), Cause>
     ensures ok { IfOk result (λ word. words_of line.now ≡ word.0.now ∷ words_of word.1.now) }
@@ -72,7 +73,7 @@ fn segment(word: &[u8]) -> Result<u64, Cause>
 fn client(word: &[u8]) -> Result<u64, Cause>
     ensures { result ≡ client word.now }
 {
-    number(word, 1, 64)
+    number(word, 1, LAST_CLIENT)
 }
 
 fn moment(word: &[u8]) -> Result<u64, Cause>
@@ -84,25 +85,25 @@ fn moment(word: &[u8]) -> Result<u64, Cause>
 fn first_page(word: &[u8]) -> Result<u64, Cause>
     ensures { result ≡ first_page word.now }
 {
-    number(word, 0, 511)
+    number(word, 0, MOST_SEGMENT_PAGES - 1)
 }
 
 fn page_count(word: &[u8]) -> Result<u64, Cause>
     ensures { result ≡ page_count word.now }
 {
-    number(word, 1, 512)
+    number(word, 1, MOST_SEGMENT_PAGES)
 }
 
 fn byte_place(word: &[u8]) -> Result<u64, Cause>
     ensures { result ≡ byte_place word.now }
 {
-    number(word, 0, 2_097_151)
+    number(word, 0, MOST_SEGMENT_PAGES * PAGE - 1)
 }
 
 fn byte_count(word: &[u8]) -> Result<u64, Cause>
     ensures { result ≡ byte_count word.now }
 {
-    number(word, 1, 4096)
+    number(word, 1, MOST_MOVED_BYTES)
 }
 
 fn grant(words: &[u8]) -> Result<Command, Cause>
