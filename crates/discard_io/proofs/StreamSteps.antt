@@ -2,10 +2,9 @@
 use Rattle.std.proofs.Common.{◌≡◌, ℕ, ◌+◌, ◌-◌, ◌≤◌, List, [], ◌++◌, length, take, drop, refl, sym, ap, arith, append_assoc, ◌∙◌}
 use Rattle.std.specs.Prelude.{Option, Some, None}
 use Rattle.std.proofs.lemmas.Grind.{common_steps}
-use Rattle.std.proofs.lemmas.List.{length-append}
 use Rattle.std.proofs.Math.Seq.{take-add}
 use Rattle.discard_io.specs.Counts.{CalledAtMost, one_call_more}
-use Rattle.discard_io.specs.Streams.{Took, TookAtMost, appended}
+use Rattle.discard_io.specs.Streams.{Took, appended}
 
 -- where nothing was taken, the same is left
 pub took_nothing : (left : Option (List ℕ)) → Took left [] left
