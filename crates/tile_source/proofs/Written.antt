@@ -10,8 +10,8 @@ use Rattle.std.proofs.lemmas.Str.Parse.{digit_from_value}
 use Rattle.tile_source.specs.declared.pgm.Head.{Head}
 use Rattle.tile_source.specs.declared.fault.PgmFault.{PgmFault}
 use Rattle.tile_source.specs.declared.fault.PgmFault.TheVariants.{BadNumber, TooLarge, WideSamples}
-use Rattle.tile_source.specs.Image.{ImageValue}
-use Rattle.tile_source.specs.Pgm.{is_white, white_len, white_at, digits_at, side_at, maxval_at, one_white_at, magic_of, header_of, pgm_of, written, IsImage}
+use Rattle.tile_source.specs.Image.{ImageValue, IsImage}
+use Rattle.tile_source.specs.Pgm.{is_white, white_len, white_at, digits_at, side_at, maxval_at, one_white_at, magic_of, header_of, pgm_of, written}
 use Rattle.tile_source.proofs.Readings.{pgm_from_parts}
 
 -- the place behind a part
@@ -126,13 +126,13 @@ written_is_read image rest is =
     let read : Ok head ≡ header_of bytes
     = header_from_steps bytes 2 3 at2 at3 at4 at5 at6 at7 image.width image.height image.maxval refl
     (white_before bytes (decimal image.width) tail1 2 10 refl refl wide.0.0 wide.0.1)
-    (side_read bytes (decimal image.height ++ tail2) 3 32 image.width refl refl is.wide.0 is.wide.1)
+    (side_read bytes (decimal image.height ++ tail2) 3 32 image.width refl refl is.ranges.0 is.ranges.1)
     (white_before bytes (decimal image.height) tail2 at2 32 e2 refl high.0.0 high.0.1)
-    (side_read bytes (decimal image.maxval ++ tail3) at3 10 image.height e3 refl is.high.0 is.high.1)
+    (side_read bytes (decimal image.maxval ++ tail3) at3 10 image.height e3 refl is.ranges.2 is.ranges.3)
     (white_before bytes (decimal image.maxval) tail3 at4 10 e4 refl bright.0.0 bright.0.1)
-    (maxval_read bytes left at5 10 image.maxval e5 refl is.bright.0 is.bright.1)
+    (maxval_read bytes left at5 10 image.maxval e5 refl is.ranges.4 is.ranges.5)
     (white_read bytes left at6 10 e6 refl) in
     let same : written image ++ rest ≡ bytes = simp append_assoc in
     let samples : image.samples ≡ map (λ s. min s image.maxval) (take (image.width * image.height) left)
-    = kept image.maxval image.samples is.dark ∙ ap (map (λ s. min s image.maxval)) (sym (take_at image.samples rest (image.width * image.height) is.sized)) in
+    = kept image.maxval image.samples is.within ∙ ap (map (λ s. min s image.maxval)) (sym (take_at image.samples rest (image.width * image.height) is.sized)) in
     ap pgm_of same ∙ sym (pgm_from_parts bytes left image.samples head read (sym e7) (omega (arith, length-append image.samples rest, is.sized)) samples)
