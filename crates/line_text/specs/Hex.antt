@@ -25,6 +25,8 @@ hex_bytes (high ∷ low ∷ digits) = do
   bytes ← hex_bytes digits
   Some ((h * 16 + l) ∷ bytes)
 
--- the bytes that a word of hexadecimal digits stands for, if it is one: it is 1 byte to the most that a command moves
+-- the bytes that a word of hexadecimal digits stands for, if it is one
 abbrev pub hex_of : List ℕ → Option (List ℕ)
-hex_of word = if nat_le 2 (length word) && nat_le (length word) (2 * MOST_MOVED_BYTES) then hex_bytes word else None
+hex_of word =
+    if nat_le 2 (length word) && nat_le (length word) (2 * MOST_MOVED_BYTES) then hex_bytes word
+    else None

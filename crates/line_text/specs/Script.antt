@@ -61,7 +61,7 @@ byte_count word = number word 1 MOST_MOVED_BYTES
 abbrev pub bytes : List ℕ → Result (List ℕ) Cause
 bytes word = ok_or (hex_of word) cause.Bytes
 
--- ---- the words behind a command's own, from left to right
+-- ---- the words after a command's own, from left to right
 
 -- `grant` C N T: a segment of N pages for the client C at T
 abbrev pub grant : List (List ℕ) → Result Command Cause
@@ -129,7 +129,7 @@ command_of (name ∷ words) =
     else if bytes_eq name (codes "try") then try_purge words
     else Err cause.Word
 
--- what reading a line gives is what is said of it, unless memory is wanting
+-- what reading a line gives is what is said of it, unless it is out of memory
 abbrev pub Gives : Result Command LineFault → Result Command Cause → Type 0
 Gives (Ok command) said = said ≡ Ok command
 Gives (Err (Refused why)) said = said ≡ Err why
@@ -189,7 +189,8 @@ abbrev pub at_line : ℕ → Result Command Cause → Result Command Refusal
 at_line place (Ok command) = Ok command
 at_line place (Err why) = Err (refusal place why)
 
--- the commands of the lines, behind those that stand before them, or the refusal of the first line that is refused
+-- the commands of the lines, after those that stand before them, or the refusal of the first line
+-- that is refused
 abbrev pub commands_after : Commands → List (ℕ × List (List ℕ)) → Result Commands Refusal
 commands_after before [] = Ok before
 commands_after before (line ∷ lines) = do
@@ -210,12 +211,12 @@ IsScript text commands = script_of text ≡ Ok commands
 abbrev pub IsRefused : List ℕ → ℕ → ℕ → Type 0
 IsRefused text place cause = script_of text ≡ Err (record { place = place; cause = cause })
 
--- what is answered is what a text is said to be, unless memory is wanting
+-- what is answered is what a text is said to be, unless it is out of memory
 abbrev pub Answers : Result Commands ScriptFault → Result Commands Refusal → Type 0
 Answers (Ok commands) said = said ≡ Ok commands
 Answers (Err (Bad place cause)) said = said ≡ Err (record { place = place; cause = cause })
 Answers (Err NoMemory) said = Unit {0}
 
--- what reading a text answers is what the text is, unless memory is wanting
+-- what reading a text answers is what the text is, unless it is out of memory
 abbrev pub Reads : Result Commands ScriptFault → List ℕ → Type 0
 Reads answer text = Answers answer (script_of text)

@@ -10,7 +10,7 @@ use units::{Bytes, NoMemory};
 const MOST_DIGITS: u64 = 2 * MOST_MOVED_BYTES;
 
 /// The bytes that a word of hexadecimal digits stands for, in either case. None comes exactly where
-/// the word isn't an even number of such digits, from 2 to 8192.
+/// the word is not an even number of such digits, from 2 to 8192.
 pub fn read_hex(alloc: Global, word: &[u8]) -> Result<Option<Bytes>, NoMemory>
     ensures { IfOk result (λ bytes. bytes ≡ hex_of word.now) }
 {

@@ -1,5 +1,8 @@
 #![tactic(auto)]
-//! Texts in lines: numbers, bytes in hexadecimal digits, lines of words, and the grammar of scripts.
+//! Texts in lines: numbers, bytes in hexadecimal digits, lines of words, and scripts.
+//!
+//! `read_script` answers the commands of a script, or the first place where it is refused and the
+//! cause; what each text is stands in `specs/`.
 
 mod cause;
 mod command;

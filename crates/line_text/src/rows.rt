@@ -1,5 +1,5 @@
 ghost use Rattle.std.specs.Prelude.{◌≡◌, ◌≢◌, [], ◌∷◌, length, IfOk, IfErr};
-ghost use Rattle.line_text.specs.Lines.{words_of};
+ghost use Rattle.line_text.specs.Lines.{words_of, HasNoWord, HasFirstWord};
 ghost use Rattle.line_text.specs.Script.{number, segment, client, moment, first_page, page_count, byte_place, byte_count, grant, lock, unlock, write, read, try_purge, command_of, Gives};
 ghost use Rattle.line_text.specs.declared.cause.Cause.TheVariants.{Count};
 
@@ -14,8 +14,8 @@ use std::alloc::Global;
 use units::{LAST_MOMENT, PAGE};
 
 fn next_word(line: &[u8]) -> Result<(&[u8], &[u8]), Cause>
-    ensures ok { IfOk result (λ word. words_of line.now ≡ word.0.now ∷ words_of word.1.now) }
-    ensures err { IfErr result (λ why. (why ≡ Count) × (words_of line.now ≡ [])) }
+    ensures ok { IfOk result (λ word. HasFirstWord line.now word.0.now word.1.now) }
+    ensures err { IfErr result (λ why. (why ≡ Count) × HasNoWord line.now) }
 {
     split_word(line).ok_or(Cause::Count)
 }
@@ -41,7 +41,8 @@ fn two_words(line: &[u8]) -> Result<(&[u8], &[u8]), Cause>
 }
 
 fn three_words(line: &[u8]) -> Result<(&[u8], &[u8], &[u8]), Cause>
-    ensures ok { IfOk result (λ words. words_of line.now ≡ words.0.now ∷ words.1.now ∷ words.2.now ∷ []) }
+    ensures ok { IfOk result (λ words. words_of line.now
+        ≡ words.0.now ∷ words.1.now ∷ words.2.now ∷ []) }
     ensures err { IfErr result (λ why. (why ≡ Count) × (length (words_of line.now) ≢ 3)) }
 {
     let (first, rest) = next_word(line)?;
@@ -50,7 +51,8 @@ fn three_words(line: &[u8]) -> Result<(&[u8], &[u8], &[u8]), Cause>
 }
 
 fn four_words(line: &[u8]) -> Result<(&[u8], &[u8], &[u8], &[u8]), Cause>
-    ensures ok { IfOk result (λ words. words_of line.now ≡ words.0.now ∷ words.1.now ∷ words.2.now ∷ words.3.now ∷ []) }
+    ensures ok { IfOk result (λ words. words_of line.now
+        ≡ words.0.now ∷ words.1.now ∷ words.2.now ∷ words.3.now ∷ []) }
     ensures err { IfErr result (λ why. (why ≡ Count) × (length (words_of line.now) ≢ 4)) }
 {
     let (first, rest) = next_word(line)?;

@@ -12,7 +12,7 @@ use crate::rows::command;
 use std::alloc::Global;
 use std::marker::Model;
 
-/// The commands of a script, seen by contracts as the list of them, each with the number of its line.
+/// The commands of a script, seen by contracts as their list, each with the number of its line.
 #[derive(Debug, Drop)]
 pub struct Script {
     commands: Vec<(u64, Command)>,
@@ -28,7 +28,7 @@ impl Model for Script {
 }
 
 impl Script {
-    /// How many commands there are, which is at most 4,096.
+    /// How many commands there are.
     pub fn len(&self) -> u64
         ensures { result ≡ length self.now }
     {
@@ -90,7 +90,7 @@ fn read_lines(alloc: Global, text: &[u8]) -> Result<Script, ScriptFault>
     Ok(Script { commands })
 }
 
-/// The command of a line, behind the commands before it.
+/// The command of a line, after the commands before it.
 fn next_command(
     alloc: Global,
     before: &[(u64, Command)],
