@@ -16,7 +16,7 @@ pub fn all_are(pages: &[bool], first: usize, end: usize, held: bool) -> bool
     true
 }
 
-/// Makes each page of a range as `held` says, where none of them is so yet. How many pages are held changes by as many.
+/// Makes each page of a range as `held` says, where none of them is so yet. The count of held pages changes by `count`.
 pub fn set_all(pages: &mut [bool], first: usize, count: usize, held: bool)
     requires inside { first + count ≤ length pages.old }
     requires other { (page : ℕ) → first ≤ page → page < first + count → slice_index_or pages.old page false ≡ not held }
