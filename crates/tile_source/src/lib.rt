@@ -5,6 +5,7 @@ pub mod causes;
 mod columns;
 mod fault;
 mod image;
+mod laws;
 mod limits;
 mod maker;
 mod pgm;
@@ -13,9 +14,10 @@ mod tiles;
 
 pub use fault::PgmFault;
 pub use image::Image;
+pub use laws::{law_image_is_spelled, law_written_is_read};
 pub use limits::{MOST_FILE_BYTES, MOST_MAXVAL, MOST_SIDE, MOST_WIDE_MAXVAL};
 pub use maker::ImageMaker;
-pub use pgm::{law_written_is_read, read_pgm, read_pgm_in_place};
+pub use pgm::{read_pgm, read_pgm_in_place};
 pub use tile::{Tile, TileMaker, pgm_head};
 
 #[cfg(test)]

@@ -1,10 +1,10 @@
-ghost use Rattle.std.specs.Prelude.{◌≡◌, ◌+◌, ◌*◌, ◌<◌, ◌≤◌, length, drop, min, map, IfOk, IfErr, false, ℕ, List, ◌++◌, Ok};
+ghost use Rattle.std.specs.Prelude.{◌≡◌, ◌+◌, ◌*◌, ◌<◌, ◌≤◌, length, drop, min, map, IfOk, IfErr, false, Ok};
 ghost use Rattle.std.specs.Str.Parse.{digits_value};
 ghost use Rattle.std.specs.Char.{is_ascii_digit};
 ghost use Rattle.std.specs.List.{take_while, prefix_len};
 ghost use Rattle.tile_source.specs.declared.limits.TheConstants.{MOST_SIDE, MOST_MAXVAL, TOO_GREAT};
-ghost use Rattle.tile_source.specs.Image.{ImageValue, AreInRange, IsImage};
-ghost use Rattle.tile_source.specs.Pgm.{ends_line, is_white, white_len, white_at, number_at, behind_digits, side_at, maxval_at, one_white_at, magic_of, header_of, raster_of, pgm_of, IsReading, written};
+ghost use Rattle.tile_source.specs.Image.{AreInRange};
+ghost use Rattle.tile_source.specs.Pgm.{ends_line, is_white, white_len, white_at, number_at, behind_digits, side_at, maxval_at, one_white_at, magic_of, header_of, raster_of, pgm_of, IsReading};
 
 use crate::fault::PgmFault;
 use crate::image::{Image, Sample};
@@ -255,8 +255,3 @@ pub fn read_pgm_in_place(bytes: Vec<u8>) -> Result<Image, PgmFault>
     head.samples(bytes.len() - head.raster)?;
     Ok(head.image(bytes, head.raster))
 }
-
-/// A law: what is written as an image is read as that image, whatever bytes follow it.
-pub fn law_written_is_read()
-    ensures { (image : ImageValue) (rest : List ℕ) → IsImage image → pgm_of (written image ++ rest) ≡ Ok image }
-{}
