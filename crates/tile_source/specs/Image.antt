@@ -1,20 +1,30 @@
-use Rattle.std.specs.Prelude.{ℕ, zero, suc, ◌+◌, ◌*◌, ◌/◌, ◌^◌, List, ◌&&◌, nat_lt, if◌then◌else◌, map, slice_index}
+-- Images, and the tiles of them.
+use Rattle.std.specs.Prelude.{◌≡◌, ℕ, zero, suc, ◌+◌, ◌*◌, ◌/◌, ◌^◌, ◌≤◌, List, ◌&&◌, nat_lt, if◌then◌else◌, map, length, slice_index}
 use Rattle.std.specs.List.{range_with_len, flat_map}
+use Rattle.tile_source.specs.declared.limits.TheConstants.{MOST_SIDE, MOST_MAXVAL}
 
--- a grey image: its sides, the sample that stands for white, and its samples, rows from the top, each from the left
+-- a grey image: its sides, maxval, which is the sample that stands for white, and its samples, rows from the top, each
+-- from the left
 pub record ImageValue : Type 0 where
   pub width : ℕ
   pub height : ℕ
   pub maxval : ℕ
   pub samples : List ℕ
 
--- the greatest side of an image
-abbrev pub greatest_side : ℕ
-greatest_side = 8192
+-- the sides and maxval are in their ranges
+abbrev pub AreInRange : ℕ → ℕ → ℕ → Type 0
+AreInRange width height maxval =
+    (1 ≤ width) × (width ≤ MOST_SIDE) × (1 ≤ height) × (height ≤ MOST_SIDE) × (1 ≤ maxval) × (maxval ≤ MOST_MAXVAL)
 
--- the greatest sample that an image has room for
-abbrev pub greatest_sample : ℕ
-greatest_sample = 255
+-- no sample exceeds maxval
+abbrev pub AreWithin : ℕ → List ℕ → Type 0
+AreWithin maxval samples = (k : ℕ) → slice_index samples k ≤ maxval
+
+-- what an image is: sides and maxval in their ranges, a sample for each place, and none above maxval
+pub record IsImage (image : ImageValue) : Type 0 where
+  pub ranges : AreInRange image.width image.height image.maxval
+  pub sized : length image.samples ≡ image.width * image.height
+  pub within : AreWithin image.maxval image.samples
 
 -- the sample at a column and a row, and 0 outside of the image
 abbrev pub sample : ImageValue → ℕ → ℕ → ℕ
@@ -25,7 +35,7 @@ abbrev pub sum_below : (ℕ → ℕ) → ℕ → ℕ
 sum_below f zero = 0
 sum_below f (suc n) = sum_below f n + f n
 
--- the sum of so many samples of one row, from a column on
+-- the sum of the first `n` samples of one row, from a column on
 abbrev pub row_sum : ImageValue → ℕ → ℕ → ℕ → ℕ
 row_sum image x y n = sum_below (λ i. sample image (x + i) y) n
 

@@ -6,7 +6,8 @@ use Rattle.std.specs.Str.Parse.{digits_value}
 use Rattle.tile_source.specs.declared.pgm.Head.{Head}
 use Rattle.tile_source.specs.declared.fault.PgmFault.{PgmFault}
 use Rattle.tile_source.specs.declared.fault.PgmFault.TheVariants.{BadMagic, BadNumber, TooLarge, Short, WideSamples, NoMemory}
-use Rattle.tile_source.specs.Image.{ImageValue, greatest_side, greatest_sample}
+use Rattle.tile_source.specs.declared.limits.TheConstants.{MOST_SIDE, MOST_MAXVAL, MOST_WIDE_MAXVAL}
+use Rattle.tile_source.specs.Image.{ImageValue}
 
 -- the next step of a reading, or its fault
 infixl 10 ◌>>=◌
@@ -48,12 +49,12 @@ behind_digits bytes at = at + length (digits_at bytes at)
 -- a width or a height at a place, and the place behind it
 abbrev pub side_at : List ℕ → ℕ → Result (ℕ × ℕ) PgmFault
 side_at bytes at = let n = number_at bytes at in
-    if n == 0 then Err (BadNumber at) else (if nat_lt greatest_side n then Err (TooLarge at) else Ok (n, behind_digits bytes at))
+    if n == 0 then Err (BadNumber at) else (if nat_lt MOST_SIDE n then Err (TooLarge at) else Ok (n, behind_digits bytes at))
 
--- the greatest value at a place, and the place behind it
+-- maxval at a place, and the place behind it
 abbrev pub maxval_at : List ℕ → ℕ → Result (ℕ × ℕ) PgmFault
 maxval_at bytes at = let n = number_at bytes at in
-    if n == 0 || nat_lt 65535 n then Err (BadNumber at) else (if nat_lt greatest_sample n then Err (WideSamples at) else Ok (n, behind_digits bytes at))
+    if n == 0 || nat_lt MOST_WIDE_MAXVAL n then Err (BadNumber at) else (if nat_lt MOST_MAXVAL n then Err (WideSamples at) else Ok (n, behind_digits bytes at))
 
 -- exactly one byte of white space at a place, which is no comment: the place behind it
 abbrev pub one_white_at : List ℕ → ℕ → Result ℕ PgmFault
@@ -63,7 +64,7 @@ one_white_at bytes at = if is_white (slice_index bytes at) then Ok (at + 1) else
 abbrev pub magic_of : List ℕ → Result ℕ PgmFault
 magic_of bytes = if starts_with nat_eq bytes (80 ∷ 53 ∷ []) then Ok 2 else Err BadMagic
 
--- the header: width, height and greatest value, each behind white space, and the place of the first sample
+-- the header: width, height and maxval, each behind white space, and the place of the first sample
 abbrev pub header_of : List ℕ → Result Head PgmFault
 header_of bytes = do
   at ← magic_of bytes
@@ -76,7 +77,7 @@ header_of bytes = do
   at ← one_white_at bytes maxval.1
   Ok (record { width = width.0; height = height.0; maxval = maxval.0; raster = at })
 
--- the image of a header and the bytes behind it; a sample above the greatest value is read as that value
+-- the image of a header and the bytes behind it; a sample above maxval is read as maxval
 abbrev pub raster_of : Head → List ℕ → Result ImageValue PgmFault
 raster_of head left = let want = head.width * head.height in
     if nat_lt (length left) want then Err (Short (length left) want)
@@ -93,7 +94,7 @@ abbrev pub IsReading : Result ImageValue PgmFault → Result ImageValue PgmFault
 IsReading (Err NoMemory) held = Unit {0}
 IsReading answer held = answer ≡ held
 
--- the head of an image as a file: `P5`, LF, width, space, height, LF, the greatest value, LF
+-- the head of an image as a file: `P5`, LF, width, space, height, LF, maxval, LF
 abbrev pub head : ℕ → ℕ → ℕ → List ℕ
 head width height maxval =
     (80 ∷ 53 ∷ 10 ∷ []) ++ decimal width ++ (32 ∷ []) ++ decimal height ++ (10 ∷ []) ++ decimal maxval ++ (10 ∷ [])
@@ -101,11 +102,3 @@ head width height maxval =
 -- an image as a file: its head and its samples
 abbrev pub written : ImageValue → List ℕ
 written image = head image.width image.height image.maxval ++ image.samples
-
--- what a file can hold: sides and a greatest value in their ranges, and so many samples, none above that value
-pub record IsImage (image : ImageValue) : Type 0 where
-  pub wide : (0 < image.width) × (image.width ≤ greatest_side)
-  pub high : (0 < image.height) × (image.height ≤ greatest_side)
-  pub bright : (0 < image.maxval) × (image.maxval ≤ greatest_sample)
-  pub sized : length image.samples ≡ image.width * image.height
-  pub dark : (k : ℕ) → slice_index image.samples k ≤ image.maxval

@@ -5,7 +5,7 @@ use std::marker::Model;
 /// What one sample is stored as.
 pub(crate) type Sample = u8;
 
-/// A grey image, at most 8192 by 8192. Contracts see its sides, its greatest value and its samples.
+/// A grey image, at most 8192 by 8192. Contracts see its sides, its maxval and its samples, none of which exceeds maxval.
 #[derive(Debug, Drop)]
 pub struct Image {
     width: u32,
@@ -19,19 +19,20 @@ pub struct Image {
 
 impl Model for Image {
     ghost use Rattle.std.specs.Prelude.{◌+◌, ◌*◌, ◌≤◌, length, take, drop};
-    ghost use Rattle.tile_source.specs.Image.{ImageValue, greatest_side};
+    ghost use Rattle.tile_source.specs.Image.{ImageValue, AreInRange, AreWithin};
 
     ghost Value = { ImageValue };
 
     ghost view = { λ i. record { width = i.width; height = i.height; maxval = i.maxval; samples = take (i.width * i.height) (drop i.first i.bytes.items) } };
 
-    ghost invariant = { λ i. (i.width ≤ greatest_side) × (i.height ≤ greatest_side) × (i.first + i.width * i.height ≤ length i.bytes.items) };
+    ghost invariant = { λ i. AreInRange i.width i.height i.maxval × (i.first + i.width * i.height ≤ length i.bytes.items) × AreWithin i.maxval (take (i.width * i.height) (drop i.first i.bytes.items)) };
 }
 
 impl Image {
-    ghost use Rattle.tile_source.specs.Image.{sample, greatest_side, greatest_sample};
+    ghost use Rattle.tile_source.specs.Image.{sample, AreInRange, AreWithin};
+    ghost use Rattle.tile_source.specs.declared.limits.TheConstants.{MOST_SIDE, MOST_MAXVAL};
 
-    /// An image whose samples stand in these bytes, from this place on.
+    // An image whose samples stand in these bytes, from this place on.
     pub(crate) fn from_parts(
         width: u32,
         height: u32,
@@ -39,9 +40,9 @@ impl Image {
         bytes: Vec<Sample>,
         first: usize,
     ) -> Image
-        requires narrow { width ≤ greatest_side }
-        requires low { height ≤ greatest_side }
+        requires ranges { AreInRange width height maxval }
         requires enough { first + width * height ≤ length bytes.items }
+        requires within { AreWithin maxval (take (width * height) (drop first bytes.items)) }
         ensures { result ≡ record { width = width; height = height; maxval = maxval; samples = take (width * height) (drop first bytes.items) } }
     {
         Image {
@@ -56,7 +57,7 @@ impl Image {
     /// How many samples a row has.
     pub fn width(&self) -> u32
         ensures value { result ≡ self.now.width }
-        ensures bound { result ≤ greatest_side }
+        ensures range { (1 ≤ result) × (result ≤ MOST_SIDE) }
     {
         self.width
     }
@@ -64,24 +65,26 @@ impl Image {
     /// How many rows the image has.
     pub fn height(&self) -> u32
         ensures value { result ≡ self.now.height }
-        ensures bound { result ≤ greatest_side }
+        ensures range { (1 ≤ result) × (result ≤ MOST_SIDE) }
     {
         self.height
     }
 
-    /// The greatest value of a sample, which stands for white.
+    /// Maxval: the sample that stands for white. No sample exceeds it.
     pub fn maxval(&self) -> u32
-        ensures { result ≡ self.now.maxval }
+        ensures value { result ≡ self.now.maxval }
+        ensures range { (1 ≤ result) × (result ≤ MOST_MAXVAL) }
     {
         self.maxval
     }
 
-    /// All samples, rows from the top.
+    // All samples, rows from the top.
     fn samples(&self) -> &[Sample]
         ensures value { result.now ≡ self.now.samples }
         ensures len { length result.now ≡ self.now.width * self.now.height }
-        ensures narrow { self.now.width ≤ greatest_side }
-        ensures low { self.now.height ≤ greatest_side }
+        ensures narrow { self.now.width ≤ MOST_SIDE }
+        ensures low { self.now.height ≤ MOST_SIDE }
+        ensures within { AreWithin self.now.maxval self.now.samples }
     {
         let count = self.width as usize * self.height as usize;
         &self.bytes[self.first..][..count]
@@ -89,7 +92,8 @@ impl Image {
 
     /// The sample at a column and a row, and 0 outside of the image.
     pub fn sample(&self, x: u32, y: u32) -> u32
-        ensures { result ≡ sample self.now x y }
+        ensures value { result ≡ sample self.now x y }
+        ensures within { result ≤ self.now.maxval }
     {
         if x < self.width && y < self.height {
             u32::from(self.samples()[y as usize * self.width as usize + x as usize])
@@ -98,7 +102,7 @@ impl Image {
         }
     }
 
-    /// So many samples of one row, from a column on.
+    // `count` samples of one row, from a column on.
     pub(crate) fn line(&self, x: usize, y: usize, count: usize) -> &[Sample]
         requires inside { x + count ≤ self.now.width }
         requires low { y < self.now.height }

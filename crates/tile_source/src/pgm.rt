@@ -1,12 +1,14 @@
-ghost use Rattle.std.specs.Prelude.{◌≡◌, ◌+◌, ◌*◌, ◌<◌, ◌≤◌, length, drop, min, map, IfOk, IfErr, false, ℕ, List, ◌++◌, Ok};
+ghost use Rattle.std.specs.Prelude.{◌≡◌, ◌+◌, ◌*◌, ◌<◌, ◌≤◌, length, drop, min, map, IfOk, IfErr, false, Ok};
 ghost use Rattle.std.specs.Str.Parse.{digits_value};
 ghost use Rattle.std.specs.Char.{is_ascii_digit};
 ghost use Rattle.std.specs.List.{take_while, prefix_len};
-ghost use Rattle.tile_source.specs.Image.{ImageValue, greatest_side};
-ghost use Rattle.tile_source.specs.Pgm.{ends_line, is_white, white_len, white_at, number_at, behind_digits, side_at, maxval_at, one_white_at, magic_of, header_of, raster_of, pgm_of, IsReading, written, IsImage};
+ghost use Rattle.tile_source.specs.declared.limits.TheConstants.{MOST_SIDE, MOST_MAXVAL, TOO_GREAT};
+ghost use Rattle.tile_source.specs.Image.{AreInRange};
+ghost use Rattle.tile_source.specs.Pgm.{ends_line, is_white, white_len, white_at, number_at, behind_digits, side_at, maxval_at, one_white_at, magic_of, header_of, raster_of, pgm_of, IsReading};
 
 use crate::fault::PgmFault;
 use crate::image::{Image, Sample};
+use crate::limits::{MOST_MAXVAL, MOST_SIDE, MOST_WIDE_MAXVAL, TOO_GREAT};
 use std::alloc::Global;
 
 // What the header says, and the place of the first sample.
@@ -21,8 +23,7 @@ struct Head {
 impl Head {
     // How many samples the image has, or Short where fewer bytes are left.
     fn samples(self, left: usize) -> Result<usize, PgmFault>
-        requires narrow { self.width ≤ greatest_side }
-        requires low { self.height ≤ greatest_side }
+        requires ranges { AreInRange self.width self.height self.maxval }
         ensures ok { IfOk result (λ want. (want ≡ self.width * self.height) × (want ≤ left)) }
         ensures err { IfErr result (λ fault. (left < self.width * self.height) × (fault ≡ PgmFault.Short left (self.width * self.height))) }
     {
@@ -38,8 +39,7 @@ impl Head {
 
     // The image whose samples stand in these bytes, from this place on.
     fn image(self, bytes: Vec<Sample>, first: usize) -> Image
-        requires narrow { self.width ≤ greatest_side }
-        requires low { self.height ≤ greatest_side }
+        requires ranges { AreInRange self.width self.height self.maxval }
         requires enough { first + self.width * self.height ≤ length bytes.items }
         ensures { Ok result ≡ raster_of self (drop first bytes.items) }
     {
@@ -105,12 +105,9 @@ fn digits_len(text: &[u8]) -> usize
     text.len()
 }
 
-// A number that is too great for each place of the header.
-const TOO_GREAT: u32 = 65536;
-
 // The value of the digits that a text begins with, or `TOO_GREAT` where it is more.
 fn number(text: &[u8]) -> u32
-    ensures { result ≡ min (digits_value 10 (take_while is_ascii_digit text.now)) 65536 }
+    ensures { result ≡ min (digits_value 10 (take_while is_ascii_digit text.now)) TOO_GREAT }
 {
     let mut value = 0u32;
     for byte in text {
@@ -125,7 +122,7 @@ fn number(text: &[u8]) -> u32
 // The value of the digits at a place, or `TOO_GREAT` where it is more, and the place behind them.
 fn number_at(bytes: &[u8], at: usize) -> (u32, usize)
     requires { at ≤ length bytes.now }
-    ensures value { result.0 ≡ min (number_at bytes.now at) 65536 }
+    ensures value { result.0 ≡ min (number_at bytes.now at) TOO_GREAT }
     ensures end { result.1 ≡ behind_digits bytes.now at }
     ensures inside { result.1 ≤ length bytes.now }
 {
@@ -137,29 +134,30 @@ fn number_at(bytes: &[u8], at: usize) -> (u32, usize)
 fn side_at(bytes: &[u8], at: usize) -> Result<(u32, usize), PgmFault>
     requires { at ≤ length bytes.now }
     ensures exact { result ≡ side_at bytes.now at }
-    ensures bound { IfOk result (λ found. found.0 ≤ greatest_side) }
+    ensures range { IfOk result (λ found. (1 ≤ found.0) × (found.0 ≤ MOST_SIDE)) }
     ensures inside { IfOk result (λ found. found.1 ≤ length bytes.now) }
 {
     let (value, end) = number_at(bytes, at);
     if value == 0 {
         Err(PgmFault::BadNumber { at: at as u64 })
-    } else if value > 8192 {
+    } else if value > MOST_SIDE {
         Err(PgmFault::TooLarge { at: at as u64 })
     } else {
         Ok((value, end))
     }
 }
 
-// The greatest value at a place, and the place behind it.
+// Maxval at a place, and the place behind it.
 fn maxval_at(bytes: &[u8], at: usize) -> Result<(u32, usize), PgmFault>
     requires { at ≤ length bytes.now }
     ensures exact { result ≡ maxval_at bytes.now at }
+    ensures range { IfOk result (λ found. (1 ≤ found.0) × (found.0 ≤ MOST_MAXVAL)) }
     ensures inside { IfOk result (λ found. found.1 ≤ length bytes.now) }
 {
     let (value, end) = number_at(bytes, at);
-    if value == 0 || value > 65535 {
+    if value == 0 || value > MOST_WIDE_MAXVAL {
         Err(PgmFault::BadNumber { at: at as u64 })
-    } else if value > 255 {
+    } else if value > MOST_MAXVAL {
         Err(PgmFault::WideSamples { at: at as u64 })
     } else {
         Ok((value, end))
@@ -193,8 +191,7 @@ fn magic_of(bytes: &[u8]) -> Result<usize, PgmFault>
 // The header.
 fn header_of(bytes: &[u8]) -> Result<Head, PgmFault>
     ensures exact { result ≡ header_of bytes.now }
-    ensures narrow { IfOk result (λ head. head.width ≤ greatest_side) }
-    ensures low { IfOk result (λ head. head.height ≤ greatest_side) }
+    ensures ranges { IfOk result (λ head. AreInRange head.width head.height head.maxval) }
     ensures inside { IfOk result (λ head. head.raster ≤ length bytes.now) }
 {
     let at = magic_of(bytes)?;
@@ -213,7 +210,7 @@ fn header_of(bytes: &[u8]) -> Result<Head, PgmFault>
     })
 }
 
-// Brings each sample down to the greatest value.
+// Brings each sample down to maxval.
 fn clamp(samples: &mut [Sample], maxval: Sample)
     ensures { samples.new ≡ map (λ s. min s maxval) samples.old }
 {
@@ -222,11 +219,11 @@ fn clamp(samples: &mut [Sample], maxval: Sample)
     }
 }
 
-// Bytes with each sample brought down to the greatest value.
+// Bytes with each sample brought down to maxval.
 fn clamped(mut bytes: Vec<Sample>, maxval: u32) -> Vec<Sample>
     ensures { result.items ≡ map (λ s. min s maxval) bytes.items }
 {
-    if maxval < 255 {
+    if maxval < MOST_MAXVAL {
         clamp(&mut bytes, maxval as Sample);
     }
     bytes
@@ -234,11 +231,11 @@ fn clamped(mut bytes: Vec<Sample>, maxval: u32) -> Vec<Sample>
 
 /// Reads the first image of a file of the form P5.
 ///
-/// The header is `P5`, the width and the height, each from 1 to 8192, and the greatest value, from 1 to 255, each behind
-/// white space. White space is space, TAB, CR and LF; a comment, which begins with `#` and goes on up to and with the
-/// next CR or LF, counts as white space, but not behind the greatest value, where exactly one byte of white space
-/// stands. Then the samples follow, one byte each. A sample above the greatest value is read as that value, and bytes
-/// behind the samples are not read. The answer is the image, or the first fault from the left.
+/// The header is `P5`, the width and the height, each from 1 to 8192, and maxval, from 1 to 255, each behind white
+/// space. White space is space, TAB, CR and LF; a comment, which begins with `#` and goes on up to and with the next CR
+/// or LF, counts as white space, but not behind maxval, where exactly one byte of white space stands. Then the samples
+/// follow, one byte each. A sample above maxval is read as maxval, and bytes behind the samples are not read. The
+/// answer is the image, or the first fault from the left.
 pub fn read_pgm(alloc: Global, bytes: &[u8]) -> Result<Image, PgmFault>
     ensures { IsReading result (pgm_of bytes.now) }
 {
@@ -258,8 +255,3 @@ pub fn read_pgm_in_place(bytes: Vec<u8>) -> Result<Image, PgmFault>
     head.samples(bytes.len() - head.raster)?;
     Ok(head.image(bytes, head.raster))
 }
-
-/// A law: what is written as an image is read as that image, whatever bytes follow it.
-pub fn law_written_is_read()
-    ensures { (image : ImageValue) (rest : List ℕ) → IsImage image → pgm_of (written image ++ rest) ≡ Ok image }
-{}
