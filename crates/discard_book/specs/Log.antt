@@ -10,7 +10,7 @@ pub record Log : Type 0 where
   pub entries : List Entry
   pub spare : ℕ
 
--- the entry was added last, in a spare place, with what it changes of live segments and granted pages
+-- the entry was added last, in a spare place: what this makes of live segments and granted pages
 pub record AddsEntry (old new : Log) (entry : Entry) : Type 0 where
   pub entries : new.entries ≡ old.entries ++ entry ∷ []
   pub spare : new.spare + 1 ≡ old.spare
