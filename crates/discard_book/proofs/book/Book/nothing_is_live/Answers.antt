@@ -3,7 +3,7 @@ use Rattle.discard_book.specs.Live.{live}
 use Rattle.discard_book.specs.Legal.{is_empty}
 use Rattle.discard_book.specs.Log.{Log}
 use Rattle.discard_book.proofs.Kept.{is_empty_is}
-use Rattle.discard_book.proofs.book.Book.is_idle.Goals as goal
+use Rattle.discard_book.proofs.book.Book.nothing_is_live.Goals as goal
 
 pub returns : goal.returns
 returns c =
