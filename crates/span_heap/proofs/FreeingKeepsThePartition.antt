@@ -1,21 +1,35 @@
 -- A used span becomes free, and is joined with the free runs beside it.
-use Rattle.std.proofs.Common.{◌≡◌, ℕ, ◌+◌, ◌-◌, ◌≤◌, Bool, true, false, not, cond, eqb, List, [], ◌∷◌, length, refl, sym, ◌∙◌, ap, subst, arith, ◌⊎◌, inl, inr}
-use Rattle.std.specs.List.{sum_by, count_by, filter, All}
+use Rattle.std.proofs.Common.{◌≡◌, ℕ, ◌+◌, ◌≤◌, true, false, not, List, arith, ◌-◌, Bool, cond, eqb, [], ◌∷◌, length, refl, sym, ◌∙◌, ap, subst, ◌⊎◌, inl, inr, ◌≢◌, ◌++◌}
+use Rattle.std.specs.List.{sum_by, filter, count_by, All}
+use Rattle.std.proofs.lemmas.Bool.{and_parts, and_right, eqb-true, ne_eqb, and_from, eq-eqb, and_left}
+use Rattle.span_heap.specs.declared.run.Run.{Run}
+use Rattle.span_heap.specs.Run.{lies_in, begins_at, ends_at, is_beside, pages_of, has_page}
+use Rattle.span_heap.specs.Runs.{pages_before, pages_behind, joined, freed}
+use Rattle.span_heap.proofs.Sums.{sum_of_three_parts, filter_at_most_one, within, within-split, within-empty, within-same}
 use Rattle.std.specs.List.Sorted.{IsPermutation}
 use Rattle.std.proofs.lemmas.List.Sums.{sum_by_push, length-filter}
 use Rattle.std.proofs.lemmas.List.Sorted.{All-permutation}
-use Rattle.std.proofs.lemmas.List.Elements.{All-head, All-tail, All-push, All-filter}
-use Rattle.std.proofs.lemmas.Bool.{and_parts, and_from, eqb-true, eq-eqb, ne_eqb, and_right}
-use Rattle.span_heap.specs.declared.run.Run.{Run}
-use Rattle.span_heap.specs.declared.segment.Segment.{Segment}
-use Rattle.span_heap.specs.Run.{has_page, begins_at, ends_at, is_beside, pages_of}
-use Rattle.span_heap.specs.Runs.{pages_before, pages_behind, joined, freed}
+use Rattle.std.proofs.lemmas.List.Elements.{All-head, All-tail, All-push, All-filter, All-weaker}
+use Rattle.span_heap.specs.Segment.{Segment}
 use Rattle.span_heap.specs.Heap.{Contents, contents}
-use Rattle.span_heap.proofs.Counted.{IsCounted, has_page-within}
-use Rattle.span_heap.proofs.Lists.{filter_at_most_one}
-use Rattle.span_heap.proofs.Joins.{sum_of_beside}
-use Rattle.span_heap.proofs.Covered.{sum_by-with, one_if, at_most_once, begins-le-pages, ends-le-pages}
-use Rattle.span_heap.proofs.Pages.{within, within-split, within-empty, within-same}
+use Rattle.span_heap.proofs.PartitionByCounts.{IsCounted, has_page-within, sum_by-with, one_if, at_most_once, begins-le-pages, ends-le-pages}
+
+-- no run ends before a span and begins behind it
+pub ends_before_it : (span : Run) → 1 ≤ span.pages → (run : Run) → ends_at span.segment span.first run ≡ true → begins_at span.segment (span.first + span.pages) run ≡ false
+ends_before_it span sized run ends =
+    let end = eqb-true (run.first + run.pages) span.first (and_parts (lies_in span.segment run) _ ends).1 in
+    and_right (lies_in span.segment run) _ (ne_eqb run.first (span.first + span.pages) (λ e. omega arith))
+
+-- the runs that stay, those before the span and those behind it are all of them
+pub sum_of_beside : (f : Run → ℕ) (runs : List Run) (span : Run) → 1 ≤ span.pages
+    → sum_by f (filter (λ run. not (is_beside span run)) runs)
+    + (sum_by f (filter (ends_at span.segment span.first) runs) + sum_by f (filter (begins_at span.segment (span.first + span.pages)) runs))
+    ≡ sum_by f runs
+sum_of_beside f runs span sized =
+    sum_of_three_parts f (ends_at span.segment span.first) (begins_at span.segment (span.first + span.pages)) (ends_before_it span sized) runs
+
+pub beside_fit : (runs : List Run) (span : Run) → 1 ≤ span.pages → pages_before runs span + pages_behind runs span ≤ pages_of runs
+beside_fit runs span sized = omega (arith, sum_of_beside (λ run. run.pages) runs span sized)
 
 -- the free runs directly before a span, and directly behind it
 abbrev pub before : List Run → Run → List Run
@@ -249,3 +263,35 @@ IsCounted-freed segments used free used' span whole taken =
 
     sized : 1 ≤ span.pages
     sized = All-head (λ (x : Run). 1 ≤ x.pages) span used' used_sized
+
+-- what no element passes leaves nothing, and its contrary all
+filter_none : {X : Type 0} (p : X → Bool) (xs : List X) → All (λ x. p x ≡ false) xs → filter p xs ≡ []
+filter_none p [] none = refl
+filter_none p (x ∷ xs) none = rw (All-head (λ y. p y ≡ false) x xs none) (filter_none p xs (All-tail (λ y. p y ≡ false) x xs none))
+
+filter_all : {X : Type 0} (p : X → Bool) (xs : List X) → All (λ x. p x ≡ false) xs → filter (λ x. not (p x)) xs ≡ xs
+filter_all p [] none = refl
+filter_all p (x ∷ xs) none =
+    rw (All-head (λ y. p y ≡ false) x xs none) (ap (λ ys. x ∷ ys) (filter_all p xs (All-tail (λ y. p y ≡ false) x xs none)))
+
+not_beside : (span run : Run) → run.segment ≢ span.segment → is_beside span run ≡ false
+not_beside span run other =
+    let number = ne_eqb run.segment span.segment other in
+    rw number refl
+
+-- a span with nothing beside it is appended as it is
+pub freed_alone : (free : List Run) (span : Run) → All (λ run. run.segment ≢ span.segment) free → freed free span ≡ free ++ span ∷ []
+freed_alone free span elsewhere =
+    let early = filter_none (ends_at span.segment span.first) free
+    (All-weaker (λ run. run.segment ≢ span.segment) (λ run. ends_at span.segment span.first run ≡ false) (λ run other. and_left _ _ (ne_eqb run.segment span.segment other)) free elsewhere) in
+    let late = filter_none (begins_at span.segment (span.first + span.pages)) free
+    (All-weaker (λ run. run.segment ≢ span.segment) (λ run. begins_at span.segment (span.first + span.pages) run ≡ false) (λ run other. and_left _ _ (ne_eqb run.segment span.segment other)) free elsewhere) in
+    let stay = filter_all (is_beside span) free
+    (All-weaker (λ run. run.segment ≢ span.segment) (λ run. is_beside span run ≡ false) (λ run other. not_beside span run other) free elsewhere) in
+    let at : ℕ → ℕ → Run = λ f n. record { segment = span.segment; first = f; pages = n } in
+    let first : span.first - pages_before free span ≡ span.first = ap (λ runs. span.first - pages_of runs) early ∙ omega arith in
+    let none_before : pages_before free span ≡ 0 = ap pages_of early in
+    let none_behind : pages_behind free span ≡ 0 = ap pages_of late in
+    let pages : pages_before free span + span.pages + pages_behind free span ≡ span.pages = omega arith in
+    ap (λ runs. runs ++ joined free span ∷ []) stay
+    ∙ ap (λ run. free ++ run ∷ []) (ap (λ f. at f (pages_before free span + span.pages + pages_behind free span)) first ∙ ap (at span.first) pages)

@@ -1,18 +1,54 @@
--- A segment leaves, with all that lies in it.
-use Rattle.std.proofs.Common.{◌≡◌, ℕ, ◌+◌, ◌≤◌, Bool, true, false, not, cond, eqb, List, arith, ◌∙◌, refl, sym, ap, inl, inr}
-use Rattle.std.specs.List.{sum_by, filter}
+-- A segment comes as one used span, or leaves with all that lies in it.
+use Rattle.std.proofs.Common.{◌≡◌, ℕ, ◌+◌, ◌≤◌, Bool, true, false, cond, eqb, List, [], ◌∷◌, ◌++◌, arith, refl, subst, not, ◌∙◌, sym, ap, inl, inr}
+use Rattle.std.specs.List.{count_by, sum_by, filter}
 use Rattle.std.specs.List.Sorted.{IsPermutation}
+use Rattle.std.proofs.lemmas.List.Sums.{sum_by_push}
 use Rattle.std.proofs.lemmas.List.Sorted.{All-permutation, sum_by-IsPermutation}
-use Rattle.std.proofs.lemmas.List.Elements.{All-filter}
-use Rattle.std.proofs.lemmas.List.Filters.{sum_by-filter_both}
-use Rattle.std.proofs.lemmas.Bool.{and_left, ne_eqb, cases_eq}
+use Rattle.std.proofs.lemmas.List.Elements.{All-cons, All-filter}
+use Rattle.std.proofs.lemmas.Bool.{eqb-true, and_left, ne_eqb, cases_eq}
+use Rattle.std.proofs.lemmas.Bool.Decides.{nat_tests}
 use Rattle.span_heap.specs.declared.run.Run.{Run}
-use Rattle.span_heap.specs.declared.segment.Segment.{Segment}
-use Rattle.span_heap.specs.Run.{lies_in, has_page, begins_at, ends_at}
+use Rattle.span_heap.specs.Segment.{Segment}
+use Rattle.span_heap.specs.Changes.{whole_of}
+use Rattle.span_heap.specs.Run.{has_page, lies_in, begins_at, ends_at}
+use Rattle.span_heap.specs.Heap.{contents, has_id, holds_page, has_segment}
+use Rattle.span_heap.proofs.PartitionByCounts.{IsCounted, count_of_absent, sum_by-given}
+use Rattle.std.proofs.lemmas.List.Filters.{sum_by-filter_both}
 use Rattle.span_heap.specs.Runs.{dropped}
-use Rattle.span_heap.specs.Heap.{contents, has_id, holds_page}
-use Rattle.span_heap.proofs.Counted.{IsCounted}
-use Rattle.span_heap.proofs.Lists.{sum_by-filter, sum_by-same, sum_by-none}
+use Rattle.span_heap.proofs.Sums.{sum_by-filter, sum_by-same, sum_by-none}
+
+-- the run of a whole segment has just its pages
+pub whole_pages : (id page segment pages : ℕ) → cond {A = ℕ} (has_page id page (whole_of segment pages)) 1 0 ≡ cond {A = ℕ} (holds_page id page (record { id = segment; pages = pages })) 1 0
+whole_pages id page segment pages = grind (arith, nat_tests)
+
+pub grown_distinct : (segments : List Segment) (segment pages : ℕ) → has_segment segments segment ≡ false → ((id : ℕ) → count_by (has_id id) segments ≤ 1)
+    → (id : ℕ) → (b : Bool) → eqb segment id ≡ b → cond {A = ℕ} b 1 0 + count_by (has_id id) segments ≤ 1
+grown_distinct segments segment pages absent distinct id true same =
+    let none = subst (λ n. count_by (has_id n) segments ≡ 0) (eqb-true segment id same) (count_of_absent (has_id segment) segments absent) in
+    omega (arith, none)
+grown_distinct segments segment pages absent distinct id false same = omega (arith, distinct id)
+
+pub IsCounted-grown : (segments : List Segment) (used free used' : List Run) (segment pages : ℕ) → IsCounted (contents segments used free)
+    → has_segment segments segment ≡ false → IsPermutation (whole_of segment pages ∷ used) used' → 1 ≤ pages
+    → IsCounted (contents (segments ++ record { id = segment; pages = pages } ∷ []) used' free)
+IsCounted-grown segments used free used' segment pages whole absent given sized =
+    record {
+      once = λ id page. omega (
+        arith,
+        whole.once id page,
+        whole_pages id page segment pages,
+        sum_by-given (λ x. cond {A = ℕ} (has_page id page x) 1 0) used used' (whole_of segment pages) given,
+        sum_by_push (λ x. cond {A = ℕ} (holds_page id page x) 1 0) segments (record { id = segment; pages = pages }),
+      );
+      distinct = λ id. omega (
+        arith,
+        grown_distinct segments segment pages absent whole.distinct id (eqb segment id) refl,
+        sum_by_push (λ x. cond {A = ℕ} (has_id id x) 1 0) segments (record { id = segment; pages = pages }),
+      );
+      used_sized = All-permutation (λ x. 1 ≤ x.pages) (whole_of segment pages ∷ used) used' given (All-cons (λ x. 1 ≤ x.pages) (whole_of segment pages) used sized whole.used_sized);
+      free_sized = whole.free_sized;
+      apart = whole.apart;
+    }
 
 -- one term of a sum over what has one number, where what has another number leaves
 kept_one : (number segment id n : ℕ) → ((number ≡ id → ⊥) → n ≡ 0) → cond (not (eqb number segment)) n 0 ≡ cond (not (eqb id segment)) n 0

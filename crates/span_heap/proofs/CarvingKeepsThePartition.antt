@@ -1,19 +1,18 @@
--- A used span is taken from the front of a free run.
+-- A used span is taken from the front of a free run, or cut in two.
 use Rattle.std.proofs.Common.{◌≡◌, ℕ, ◌+◌, ◌-◌, ◌<◌, ◌≤◌, Bool, true, false, ◌&&◌, cond, eqb, List, [], ◌∷◌, ◌++◌, refl, sym, ◌∙◌, ap, subst, arith, ◌⊎◌, inl, inr}
 use Rattle.std.specs.List.{sum_by, count_by, All}
 use Rattle.std.specs.List.Sorted.{IsPermutation}
-use Rattle.std.proofs.lemmas.List.Sums.{sum_by-append}
-use Rattle.std.proofs.lemmas.List.Sorted.{All-permutation}
+use Rattle.std.proofs.lemmas.List.Sums.{sum_by-append, sum_by-cons}
+use Rattle.std.proofs.lemmas.List.Sorted.{All-permutation, sum_by-IsPermutation}
 use Rattle.std.proofs.lemmas.List.Elements.{All-tail, All-cons, All-nil, All-append}
 use Rattle.std.proofs.lemmas.Bool.{and_parts, eqb-true, ne_eqb, lt-ltb, le-ltb, cases_lt, and_right}
 use Rattle.span_heap.specs.declared.run.Run.{Run}
-use Rattle.span_heap.specs.declared.segment.Segment.{Segment}
+use Rattle.span_heap.specs.Segment.{Segment}
 use Rattle.span_heap.specs.Run.{lies_in, has_page, begins_at, ends_at}
 use Rattle.span_heap.specs.Runs.{front_of, back_of, rest_of}
 use Rattle.span_heap.specs.Heap.{contents}
-use Rattle.span_heap.proofs.Counted.{IsCounted, has_page-within}
-use Rattle.span_heap.proofs.Covered.{sum_by-with, sum_by-given, one_if, at_most_once, begins-le-pages, ends-le-pages}
-use Rattle.span_heap.proofs.Pages.{within, within-split}
+use Rattle.span_heap.proofs.PartitionByCounts.{IsCounted, has_page-within, sum_by-with, sum_by-given, one_if, at_most_once, begins-le-pages, ends-le-pages}
+use Rattle.span_heap.proofs.Sums.{within, within-split}
 
 -- either something is left of a run behind its first n pages, or it has just these
 pub rest_cases : (run : Run) (n : ℕ) → n ≤ run.pages → ((n < run.pages) × (rest_of run n ≡ back_of run n ∷ [])) ⊎ ((run ≡ front_of run n) × (rest_of run n ≡ []))
@@ -118,3 +117,32 @@ IsCounted-carved segments used free others used' run n whole taken given low hig
   where
     others_sized : All (λ (x : Run). 1 ≤ x.pages) others
     others_sized = All-tail (λ (x : Run). 1 ≤ x.pages) run others (All-permutation (λ (x : Run). 1 ≤ x.pages) free (run ∷ others) taken whole.free_sized)
+
+-- what a measure that adds up counts stays
+pub cut_sum : (f : Run → ℕ) (used used' : List Run) (span : Run) (n : ℕ) → IsPermutation (front_of span n ∷ back_of span n ∷ used) (span ∷ used')
+    → f span ≡ f (front_of span n) + f (back_of span n) → sum_by f used' ≡ sum_by f used
+cut_sum f used used' span n swapped cut =
+    omega (
+      arith,
+      cut,
+      sum_by-IsPermutation f (front_of span n ∷ back_of span n ∷ used) (span ∷ used') swapped,
+      sum_by-cons f (front_of span n) (back_of span n ∷ used),
+      sum_by-cons f (back_of span n) used,
+      sum_by-cons f span used',
+    )
+
+pub IsCounted-cut : (segments : List Segment) (used free used' : List Run) (span : Run) (n : ℕ) → IsCounted (contents segments used free)
+    → IsPermutation (front_of span n ∷ back_of span n ∷ used) (span ∷ used') → 1 ≤ n → n < span.pages → IsCounted (contents segments used' free)
+IsCounted-cut segments used free used' span n whole swapped low high =
+    record {
+      once = λ id page. omega (
+        arith,
+        whole.once id page,
+        cut_sum (λ x. cond {A = ℕ} (has_page id page x) 1 0) used used' span n swapped (cut_pages id page span n (omega arith)),
+      );
+      distinct = whole.distinct;
+      used_sized = All-tail (λ x. 1 ≤ x.pages) span used' (All-permutation (λ x. 1 ≤ x.pages) (front_of span n ∷ back_of span n ∷ used) (span ∷ used') swapped
+          (All-cons (λ x. 1 ≤ x.pages) (front_of span n) (back_of span n ∷ used) low (All-cons (λ x. 1 ≤ x.pages) (back_of span n) used (omega (arith, high)) whole.used_sized)));
+      free_sized = whole.free_sized;
+      apart = whole.apart;
+    }

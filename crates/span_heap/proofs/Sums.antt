@@ -1,8 +1,9 @@
--- Sums and counts over lists.
-use Rattle.std.proofs.Common.{◌≡◌, ℕ, ◌+◌, ◌≤◌, Bool, true, false, not, ◌||◌, cond, List, [], ◌∷◌, length, get_or, refl, sym, ◌∙◌, ap, arith, ◌⊎◌, inl, inr}
+-- Sums and counts over lists, and how often a page is covered.
+use Rattle.std.proofs.Common.{◌≡◌, ℕ, ◌+◌, ◌≤◌, Bool, true, false, not, ◌||◌, cond, List, [], ◌∷◌, length, get_or, refl, sym, ◌∙◌, ap, arith, ◌⊎◌, inl, inr, ◌&&◌, ltb, leb, eqb}
 use Rattle.std.specs.List.{sum_by, count_by, filter, Contains, All}
 use Rattle.std.proofs.lemmas.List.Sums.{sum_by-cons, get_or-le-sum_by, length-filter}
 use Rattle.std.proofs.lemmas.List.Elements.{All-head, All-tail, filter_passes}
+use Rattle.std.proofs.lemmas.Bool.Decides.{nat_tests}
 
 sum_of_filtered_head : {X : Type 0} (f : X → ℕ) (p : X → Bool) (x : X) (xs : List X) (b : Bool) → sum_by f (cond b (x ∷ filter p xs) (filter p xs)) ≡ cond b (f x) 0 + sum_by f (filter p xs)
 sum_of_filtered_head f p x xs true = sum_by-cons f x (filter p xs)
@@ -84,3 +85,24 @@ sum_of_three_parts f p q apart (x ∷ xs) =
       sum_of_filtered_head f p x xs (p x),
       sum_of_filtered_head f q x xs (q x),
     )
+
+-- 1 where the page is from a up to b in this segment, else 0
+abbrev pub within : ℕ → ℕ → ℕ → ℕ → ℕ → ℕ
+within id page segment a b = cond (eqb segment id && (leb a page && ltb page b)) 1 0
+
+pub within-split : (id page segment a m b : ℕ) → a ≤ m → m ≤ b → within id page segment a b ≡ within id page segment a m + within id page segment m b
+within-split id page segment a m b low high = grind (arith, nat_tests)
+
+pub within-none : (id page segment a : ℕ) → within id page segment a a ≡ 0
+within-none id page segment a = grind (arith, nat_tests)
+
+pub within-empty : (id page segment a b : ℕ) → a ≡ b → within id page segment a b ≡ 0
+within-empty id page segment a b e = ap (within id page segment a) (sym e) ∙ within-none id page segment a
+
+pub within-same : (id page segment segment' a a' b b' : ℕ) → segment ≡ segment' → a ≡ a' → b ≡ b' → within id page segment a b ≡ within id page segment' a' b'
+within-same id page segment segment' a a' b b' s e f =
+    ap (λ x. within id page x a b) s ∙ (ap (λ x. within id page segment' x b) e ∙ ap (within id page segment' a') f)
+
+pub cond-sum : (b : Bool) (x y z : ℕ) → x ≡ y + z → cond b x 0 ≡ cond b y 0 + cond b z 0
+cond-sum true x y z e = e
+cond-sum false x y z e = omega arith
