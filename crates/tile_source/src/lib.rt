@@ -15,7 +15,7 @@ mod tiles;
 pub use fault::PgmFault;
 pub use image::Image;
 pub use laws::{law_image_is_spelled, law_written_is_read};
-pub use limits::{MOST_FILE_BYTES, MOST_MAXVAL, MOST_SIDE, MOST_WIDE_MAXVAL};
+pub use limits::{LAST_TILE, MOST_FILE_BYTES, MOST_MAXVAL, MOST_SIDE, MOST_WIDE_MAXVAL, MOST_ZOOM};
 pub use maker::ImageMaker;
 pub use pgm::{read_pgm, read_pgm_in_place};
 pub use tile::{Tile, TileMaker, pgm_head};
