@@ -21,7 +21,8 @@ pub(crate) fn covered(from: usize, count: usize, end: usize) -> usize
 fn add_samples(sums: &mut [u16], line: &[Sample])
     requires fits { length line.now ≤ length sums.old }
     requires room { (i : ℕ) → i < length sums.old → slice_index sums.old i < 2 ^ 15 }
-    ensures value { (i : ℕ) → i < length line.now → slice_index sums.new i ≡ slice_index sums.old i + slice_index line.now i }
+    ensures value { (i : ℕ) → i < length line.now
+        → slice_index sums.new i ≡ slice_index sums.old i + slice_index line.now i }
     ensures rest { (i : ℕ) → length line.now ≤ i → slice_index sums.new i ≡ slice_index sums.old i }
     ensures bound { (i : ℕ) → slice_index sums.new i ≤ slice_index sums.old i + MOST_MAXVAL }
 {
@@ -82,7 +83,8 @@ fn write_means<const N: usize>(sums: &[u16], z: u32, row: &mut [u8])
     requires sized { length sums.now ≡ length row.old * N }
     requires narrow { length row.old ≤ MOST_TILE_SIDE }
     requires low { (i : ℕ) → i < length sums.now → slice_index sums.now i ≤ MOST_MAXVAL * N }
-    ensures { (k : ℕ) → k < length row.old → slice_index row.new k ≡ mean z (sum (take N (drop (k * N) sums.now))) }
+    ensures { (k : ℕ) → k < length row.old
+        → slice_index row.new k ≡ mean z (sum (take N (drop (k * N) sums.now))) }
 {
     for (k, place) in row.iter_mut().enumerate() {
         *place = rounded(total::<N>(&sums[k * N..(k + 1) * N]), z);
@@ -107,7 +109,8 @@ fn average_strip<const N: usize>(
     requires y_fits { y < 2 ^ 31 }
     requires narrow { length strip.old ≤ MOST_TILE_SIDE }
     requires fits { length strip.old * N ≤ STRIP }
-    ensures { (k : ℕ) → k < length strip.old → slice_index strip.new k ≡ pixel image.now z (x + k) y }
+    ensures { (k : ℕ) → k < length strip.old
+        → slice_index strip.new k ≡ pixel image.now z (x + k) y }
 {
     let wide = strip.len() * N;
     let columns = covered(x * N, wide, image.width() as usize);
