@@ -1,5 +1,8 @@
 #![tactic(auto)]
 //! Grey images of the form P5, and their tiles: square pieces of one size, at seven zooms.
+//!
+//! A file is read as the image that the grammar of P5 files spells, or refused for its first fault.
+//! A pixel of a tile is the mean of a square of samples, a half rounded up.
 
 pub mod causes;
 mod columns;
