@@ -16,6 +16,13 @@ def script(seed):
     return [b"replay"], text_of(draw, commands(draw)), {}
 
 
+def long_script(seed):
+    """A lawful script of 4,000 commands."""
+    draw = random.Random(f"long script {seed}")
+    lines = commands(draw, 3999)
+    return [b"replay"], text_of(draw, lines), {}
+
+
 def broken_script(seed):
     """A script in which a few words, lines or bytes were changed."""
     draw = random.Random(f"broken script {seed}")
@@ -28,40 +35,71 @@ def broken_script(seed):
     return [b"replay"], bytes(text), {}
 
 
-def commands(draw):
-    sizes = []
-    lines = [grant(draw, sizes)]
+class Drawn:
+    """A segment of a script that is drawn: how many pages it has, and which may be held."""
+
+    def __init__(self, pages):
+        self.pages = pages
+        self.held = set(range(pages))
+
+    def run(self, draw, is_held):
+        """A run of pages that are held, or free: its first page and its length; any pages where there is none."""
+        pages = sorted(self.held if is_held else set(range(self.pages)) - self.held)
+        if not pages or draw.random() < 0.1:
+            first = draw.randrange(self.pages)
+            return first, draw.randrange(1, self.pages - first + 1) + (draw.random() < 0.2)
+        first = last = draw.choice((pages[0], draw.choice(pages)))
+        while last + 1 in pages and draw.random() < 0.9:
+            last += 1
+        return first, last - first + 1
+
+
+KINDS = ("grant", "lock", "lock", "unlock", "unlock", "unlock", "write", "read", "try")
+
+
+def commands(draw, count=None):
+    segments = []
+    lines = [grant(draw, segments)]
     now = 1
-    for _ in range(draw.choice((3, 10, 30, 100, 300))):
+    for _ in range(count or draw.choice((3, 10, 30, 100, 300))):
         now += draw.choice((0, 0, 1, 5))
-        kind = draw.choice(("grant", "lock", "lock", "unlock", "unlock", "unlock", "write", "read", "read", "try", "try", "try"))
-        if kind == "grant":
-            lines.append(grant(draw, sizes) if len(sizes) < 12 else ["lock", "0", "0", "1"])
-            continue
-        number = draw.randrange(1, len(sizes) + 1) if draw.random() < 0.97 else draw.choice((0, len(sizes) + 1, LAST_NUMBER))
-        pages = sizes[number - 1] if 1 <= number <= len(sizes) else 3
-        moment = draw.choice((now, now, now, draw.randrange(1, 50), 1, LAST_MOMENT))
-        line = [kind, str(number)]
-        if kind in ("lock", "unlock"):
-            whole = draw.random() < 0.5
-            first = 0 if whole else draw.randrange(pages)
-            count = pages if whole else draw.randrange(1, pages - first + 1) + (draw.random() < 0.05)
-            line += [str(first), str(count)] + ([str(moment)] if kind == "unlock" else [])
-        elif kind == "try":
-            line.append(str(moment))
+        kind = draw.choice(KINDS)
+        if kind == "grant" and len(segments) < 1000 and draw.random() < 60 / len(segments):
+            lines.append(grant(draw, segments))
+        elif draw.random() < 0.03:
+            lines.append(["try", str(draw.choice((0, len(segments) + 1, LAST_NUMBER))), str(now)])
         else:
-            count = draw.choice((1, 2, 3, 17, 4096))
-            edge = draw.randrange(pages + 1) * 4096 - draw.randrange(0, count + 1)
-            place = max(0, edge if draw.random() < 0.5 else draw.randrange(pages * 4096))
-            data = bytes_of(draw, count).hex()
-            line += [str(place), (data.upper() if draw.random() < 0.2 else data) if kind == "write" else str(count)]
-        lines.append(line)
+            number = max(1, len(segments) - int(draw.expovariate(0.3)))
+            lines.append([kind if kind != "grant" else "try", str(number)])
+            lines[-1] += values(draw, lines[-1][0], segments[number - 1], draw.choice((now, now, now, now, draw.randrange(1, 50), 1, LAST_MOMENT)))
     return lines
 
 
-def grant(draw, sizes):
-    sizes.append(min(512, draw.choice((1, 1, 2, 3, 4, 9, 33, 512))))
-    return ["grant", str(draw.randrange(1, 65)), str(sizes[-1]), str(draw.randrange(1, 9))]
+def values(draw, kind, segment, moment):
+    """The words of a command after the segment's number, of which most can be done."""
+    if kind == "try":
+        return [str(moment)]
+    if kind in ("lock", "unlock"):
+        first, count = segment.run(draw, kind == "unlock")
+        pages = set(range(first, first + count))
+        if kind == "lock":
+            segment.held |= pages & set(range(segment.pages))
+            return [str(first), str(count)]
+        segment.held -= pages
+        return [str(first), str(count), str(moment)]
+    first, pages = segment.run(draw, True)
+    count = 4096 if draw.random() < 0.02 else draw.choice((1, 2, 3, 17, 64))
+    place = first * 4096 + draw.choice((0, 4095, pages * 4096 - count, draw.randrange(4096)))
+    place = min(max(0, place), 2097151)
+    if kind == "read":
+        return [str(place), str(count)]
+    data = bytes_of(draw, count).hex()
+    return [str(place), data.upper() if draw.random() < 0.2 else data]
+
+
+def grant(draw, segments):
+    segments.append(Drawn(draw.choice((1, 1, 2, 3, 4, 9, 33, 512))))
+    return ["grant", str(draw.randrange(1, 65)), str(segments[-1].pages), str(draw.randrange(1, 9))]
 
 
 def text_of(draw, lines):
