@@ -3,3 +3,4 @@ pub mod Answers
 pub mod Kept
 pub mod Segments
 pub mod Word
+pub mod Laws
