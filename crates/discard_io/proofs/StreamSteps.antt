@@ -1,30 +1,49 @@
--- How the words on streams follow from one another.
-use Rattle.std.proofs.Common.{◌≡◌, ℕ, ◌+◌, ◌-◌, ◌≤◌, List, ◌++◌, length, take, drop, refl, sym, ap, arith, append_assoc, ◌∙◌}
+-- How the words on streams and on counts of calls follow from one another.
+use Rattle.std.proofs.Common.{◌≡◌, ℕ, ◌+◌, ◌-◌, ◌≤◌, List, [], ◌++◌, length, take, drop, refl, sym, ap, arith, append_assoc, ◌∙◌}
 use Rattle.std.specs.Prelude.{Option, Some, None}
 use Rattle.std.proofs.lemmas.Grind.{common_steps}
-use Rattle.std.proofs.lemmas.List.{length-append}
-use Rattle.std.proofs.Math.Seq.{drop-append-add, take-add}
-use Rattle.discard_io.specs.Streams.{Took, TookAtMost, Gave, appended}
+use Rattle.std.proofs.Math.Seq.{take-add}
+use Rattle.discard_io.specs.Counts.{CalledAtMost, one_call_more}
+use Rattle.discard_io.specs.Streams.{Took, appended}
 
--- bytes that were given, and then some more bytes, are a front
-pub took-after-gave : (before : Option (List ℕ)) (bytes : List ℕ) (between : Option (List ℕ)) (n : ℕ) (after : Option (List ℕ))
-    → Gave before bytes between → Took between n after → Took before (length bytes + n) after
-took-after-gave before bytes None n after gave took = rw gave took
-took-after-gave before bytes (Some rest) n after gave took =
-    rw gave (simp length-append (omega (arith, took.0)), took.1 ∙ ap Some (sym (drop-append-add bytes rest n)))
+-- where nothing was taken, the same is left
+pub took_nothing : (left : Option (List ℕ)) → Took left [] left
+took_nothing None = refl
+took_nothing (Some bytes) = refl
 
--- the same of at most so many more bytes
-pub took_at_most-after-gave : (before : Option (List ℕ)) (bytes : List ℕ) (between : Option (List ℕ)) (most all : ℕ) (after : Option (List ℕ))
-    → Gave before bytes between → TookAtMost between most after → length bytes + most ≤ all → TookAtMost before all after
-took_at_most-after-gave before bytes between most all after gave (n, within, took) fits =
-    (length bytes + n, omega arith, took-after-gave before bytes between n after gave took)
+-- bytes that were taken, and then some more
+pub took-append : (before : Option (List ℕ)) (first : List ℕ) (between : Option (List ℕ)) (second : List ℕ) (after : Option (List ℕ))
+    → Took before first between → Took between second after → Took before (first ++ second) after
+took-append before first between second None took more = rw took (rw more refl)
+took-append before first between second (Some rest) took more = rw took (rw more (ap Some (sym (append_assoc first second rest))))
 
--- a piece behind what was written
+-- no call was made
+pub called_never : (calls : Option ℕ) (most : ℕ) → CalledAtMost calls most calls
+called_never None most = tt
+called_never (Some count) most = omega arith
+
+-- some calls were made, and then one more
+pub called-one_more : (before : Option ℕ) (most : ℕ) (between after : Option ℕ)
+    → CalledAtMost before most between → after ≡ one_call_more between → CalledAtMost before (most + 1) after
+called-one_more None most None after calls counted = rw counted tt
+called-one_more None most (Some between) after calls counted = absurd calls
+called-one_more (Some before) most None after calls counted = absurd calls
+called-one_more (Some before) most (Some between) after calls counted = rw counted (grind (arith, common_steps))
+
+-- a bound on calls may be larger
+pub called-within : (before : Option ℕ) (most larger : ℕ) (after : Option ℕ)
+    → CalledAtMost before most after → most ≤ larger → CalledAtMost before larger after
+called-within None most larger None calls within = tt
+called-within None most larger (Some after) calls within = absurd calls
+called-within (Some before) most larger None calls within = absurd calls
+called-within (Some before) most larger (Some after) calls within = omega (arith, calls, within)
+
+-- a piece at the end of what was written
 pub appended-append : (before : Option (List ℕ)) (first second : List ℕ) → appended (appended before first) second ≡ appended before (first ++ second)
 appended-append None first second = refl
 appended-append (Some bytes) first second = ap Some (append_assoc bytes first second)
 
--- the first n bytes behind a front make a longer front
+-- the first n bytes after a front make a longer front
 pub appended-front : (before between after : Option (List ℕ)) (bytes : List ℕ) (at n : ℕ)
     → between ≡ appended before (take at bytes) → after ≡ appended between (take n (take (length bytes - at) (drop at bytes)))
     → after ≡ appended before (take (at + n) bytes)

@@ -1,7 +1,10 @@
 pub mod Adapters
+pub mod Counts
 pub mod Faults
 pub mod Memory
 pub mod MemoryFiles
+pub mod ReadToEnd
 pub mod Status
 pub mod Streams
 pub mod Texts
+pub mod WriteAll

@@ -1,34 +1,34 @@
-use Rattle.std.specs.Prelude.{◌≡◌, ℕ, ◌<◌, ◌≤◌, List, [], ◌++◌, length, take, drop, Option, Some, None, option_map}
+-- What calls of sources, sinks and files move. The bytes of an object are an Option: None where it does not
+-- tell them.
+use Rattle.std.specs.Prelude.{◌≡◌, ℕ, ◌<◌, ◌≤◌, List, [], ◌++◌, length, take, Option, Some, None, option_map}
 
--- a read took the next n bytes of what was left, where that is told, into the front of the buffer
-abbrev pub Moves : Option (List ℕ) → ℕ → List ℕ → Option (List ℕ) → Type 0
-Moves None n buffer after = after ≡ None
-Moves (Some bytes) n buffer after = (n ≤ length bytes) × (take n buffer ≡ take n bytes) × (after ≡ Some (drop n bytes))
+-- a call took these bytes off the front of what was left, and the rest is left, where that is told
+abbrev pub Took : Option (List ℕ) → List ℕ → Option (List ℕ) → Type 0
+Took before taken after = before ≡ option_map (λ rest. taken ++ rest) after
 
 -- nothing is left, where that is told
 abbrev pub IsAtEnd : Option (List ℕ) → Type 0
 IsAtEnd None = Unit {0}
 IsAtEnd (Some bytes) = bytes ≡ []
 
--- a call took the next n bytes of what was left, where that is told
-abbrev pub Took : Option (List ℕ) → ℕ → Option (List ℕ) → Type 0
-Took None n after = after ≡ None
-Took (Some bytes) n after = (n ≤ length bytes) × (after ≡ Some (drop n bytes))
+-- a call took these bytes, and they are all that was left
+pub record TookAll (before : Option (List ℕ)) (bytes : List ℕ) (after : Option (List ℕ)) : Type 0 where
+  pub taken : Took before bytes after
+  pub ended : IsAtEnd after
 
--- a call took these bytes, and left the rest, where that is told
-abbrev pub Gave : Option (List ℕ) → List ℕ → Option (List ℕ) → Type 0
-Gave before bytes after = before ≡ option_map (λ rest. bytes ++ rest) after
+-- a call took some bytes, exactly this many
+pub record TookExactly (before : Option (List ℕ)) (count : ℕ) (after : Option (List ℕ)) : Type 0 where
+  pub bytes : List ℕ
+  pub counted : length bytes ≡ count
+  pub taken : Took before bytes after
 
--- a call took at most this many of the next bytes
-abbrev pub TookAtMost : Option (List ℕ) → ℕ → Option (List ℕ) → Type 0
-TookAtMost before most after = (n : ℕ) × (n ≤ most) × Took before n after
+-- a call took some bytes, at most this many
+pub record TookAtMost (before : Option (List ℕ)) (most : ℕ) (after : Option (List ℕ)) : Type 0 where
+  pub bytes : List ℕ
+  pub within : length bytes ≤ most
+  pub taken : Took before bytes after
 
--- a call took all bytes that were left, where that is told, and they are these
-abbrev pub TookAll : Option (List ℕ) → List ℕ → Option (List ℕ) → Type 0
-TookAll None bytes after = after ≡ None
-TookAll (Some left) bytes after = (bytes ≡ left) × (after ≡ Some [])
-
--- what was written, where that is told, with these bytes behind it
+-- what was written, where that is told, with these bytes at its end
 abbrev pub appended : Option (List ℕ) → List ℕ → Option (List ℕ)
 appended before bytes = option_map (λ written. written ++ bytes) before
 

@@ -1,6 +1,8 @@
 ghost use Rattle.std.specs.Prelude.{◌≡◌, Some, ℕ, ◌+◌, ◌-◌, ◌^◌, ◌<◌, ◌≤◌, ◌++◌, List, length, IfOk, OnErr, IsErrOf, vec_len};
 ghost use Rattle.units.specs.Count.{HasRisen};
-ghost use Rattle.discard_io.specs.Streams.{Took, TookAll, TookAtMost, Gave, IsAtEnd};
+ghost use Rattle.discard_io.specs.Counts.{CalledAtMost, one_call_more};
+ghost use Rattle.discard_io.specs.ReadToEnd.{ReadsToEnd};
+ghost use Rattle.discard_io.specs.Streams.{Took, TookAtMost, IsAtEnd};
 ghost use Rattle.discard_io.specs.declared.reading.ReadEnd.TheVariants as ends;
 
 use crate::source::Source;
@@ -8,6 +10,7 @@ use crate::status::Failed;
 use std::alloc::{AllocError, Global};
 use std::error::Error;
 use std::{cmp, fmt};
+use units::NoMemory;
 
 // The most bytes that one read asks for.
 const LARGEST_READ: u64 = 1 << 16;
@@ -19,7 +22,7 @@ pub enum ReadEnd {
     Failed,
     /// There are more bytes than the caller wants.
     TooLong,
-    /// Memory was wanting.
+    /// Out of memory.
     NoMemory,
 }
 
@@ -29,11 +32,11 @@ impl fmt::Display for ReadEnd {
     ghost output = { λ end. Some (end_text end) };
 
     fn fmt<W: fmt::Write>(&self, f: &mut fmt::Formatter<W>) -> fmt::Result {
-        f.write_str(match self {
-            ReadEnd::Failed => "failed",
-            ReadEnd::TooLong => "too long",
-            ReadEnd::NoMemory => "no memory",
-        })
+        match self {
+            ReadEnd::Failed => Failed.fmt(f),
+            ReadEnd::TooLong => f.write_str("too long"),
+            ReadEnd::NoMemory => NoMemory.fmt(f),
+        }
     }
 }
 
@@ -55,22 +58,23 @@ impl From<AllocError> for ReadEnd {
     }
 }
 
-/// All bytes that a source has left, at most `most` of them.
+/// All bytes that a source has left, where they are at most `most`, by at most `most + 1` reads.
 ///
-/// `TooLong` comes exactly where `most + 1` bytes were taken, `Failed` only where the source had a fault in this
-/// call. After each other answer than Ok, what was taken is gone: at most `most + 1` bytes.
+/// At each other answer the bytes that were taken are lost. `TooLong` comes only where exactly `most + 1` bytes were
+/// taken. `Failed` comes only where the source's count of faults rose in this call, and then at most `most` bytes
+/// were taken. At `NoMemory` at most `most + 1` bytes were taken.
 pub fn read_to_end<S: Source>(alloc: Global, source: &mut S, most: u64) -> Result<Vec<u8>, ReadEnd>
-    requires { most < 2 ^ 64 - 1 }
+    requires { most < u64.MAX }
     ensures within { IfOk result (λ bytes. vec_len bytes ≤ most) }
-    ensures all { IfOk result (λ bytes. TookAll (S.left source.old) bytes.items (S.left source.new)) }
-    ensures too_long { IsErrOf result ReadEnd.TooLong → Took (S.left source.old) (most + 1) (S.left source.new) }
-    ensures front { OnErr result (TookAtMost (S.left source.old) (most + 1) (S.left source.new)) }
-    ensures failed { IsErrOf result ReadEnd.Failed → HasRisen (S.faults source.old) (S.faults source.new) }
+    ensures took { ReadsToEnd result most (S.left source.old) (S.left source.new) }
+    ensures reads { CalledAtMost (S.reads source.old) (most + 1) (S.reads source.new) }
+    ensures failed { IsErrOf result ReadEnd.Failed
+        → HasRisen (S.faults source.old) (S.faults source.new) }
     ensures later { S.faults source.old ≤ S.faults source.new }
 {
     let mut buffer = buffer_of(alloc, cmp::min(most + 1, LARGEST_READ) as usize)?;
     let mut bytes = Vec::new(alloc);
-    // Each turn but the last takes a byte at least, so there are at most `most + 1` reads.
+    // Each turn but the last takes at least one byte, which bounds the reads.
     while bytes.len() as u64 <= most {
         let room = most + 1 - bytes.len() as u64;
         if read_more(source, &mut buffer, room, &mut bytes)? == 0 {
@@ -80,8 +84,8 @@ pub fn read_to_end<S: Source>(alloc: Global, source: &mut S, most: u64) -> Resul
     Err(ReadEnd::TooLong)
 }
 
-// Moves at most `room` bytes of the source behind `bytes`, in one read, and answers how many. At 0 the source is at
-// its end.
+// Moves at most `room` bytes of the source to the end of `bytes`, in one read, and answers how many. At 0 the source
+// is at its end.
 fn read_more<S: Source>(
     source: &mut S,
     buffer: &mut [u8],
@@ -90,13 +94,18 @@ fn read_more<S: Source>(
 ) -> Result<usize, ReadEnd>
     requires buffer { 0 < length buffer.old }
     requires room { 0 < room }
-    ensures gave { IfOk result (λ n. (part : List ℕ) × (length part ≡ n)
-        × (bytes.new.items ≡ bytes.old.items ++ part) × Gave (S.left source.old) part (S.left source.new)) }
+    ensures took { IfOk result (λ n. (part : List ℕ) × (length part ≡ n)
+        × (bytes.new.items ≡ bytes.old.items ++ part)
+        × Took (S.left source.old) part (S.left source.new)) }
     ensures within { IfOk result (λ n. n ≤ room) }
     ensures end { IfOk result (λ n. n ≡ 0 → IsAtEnd (S.left source.new)) }
-    ensures lost { OnErr result (TookAtMost (S.left source.old) room (S.left source.new)) }
-    ensures too_long { IsErrOf result ReadEnd.TooLong → ⊥ }
-    ensures failed { IsErrOf result ReadEnd.Failed → HasRisen (S.faults source.old) (S.faults source.new) }
+    ensures same { IsErrOf result ReadEnd.Failed → S.left source.new ≡ S.left source.old }
+    ensures lost { IsErrOf result ReadEnd.NoMemory
+        → TookAtMost (S.left source.old) room (S.left source.new) }
+    ensures short { IsErrOf result ReadEnd.TooLong → ⊥ }
+    ensures counted { S.reads source.new ≡ one_call_more (S.reads source.old) }
+    ensures failed { IsErrOf result ReadEnd.Failed
+        → HasRisen (S.faults source.old) (S.faults source.new) }
     ensures later { S.faults source.old ≤ S.faults source.new }
 {
     let most = cmp::min(room, buffer.len() as u64) as usize;

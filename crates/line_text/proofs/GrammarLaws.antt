@@ -3,6 +3,7 @@ use Rattle.std.proofs.Common.{◌≡◌, ℕ, ◌+◌, ◌<◌, ◌≤◌, inl, 
 use Rattle.std.proofs.lemmas.Bool.{or_parts, leb-false, lt-leb, ltb-true, ltb-false, le-ltb, lt-ltb}
 use Rattle.std.proofs.lemmas.List.{append-nil}
 use Rattle.std.proofs.lemmas.List.Sums.{sum_by-append}
+use Rattle.line_text.specs.declared.limits.TheConstants.{MOST_SCRIPT_BYTES, MOST_COMMANDS, MOST_GRANTS}
 use Rattle.line_text.specs.Lines.{kept_lines}
 use Rattle.line_text.specs.Script.{Commands, Refusal, refusal, command_of, is_grant, grants, is_one_too_many, next_command, at_line, commands_after, script_of, cause_number, ◌>>=◌}
 use Rattle.line_text.specs.Grammar.{Spells, AreFew, IsSpelled, IsFirstRefused, IsFaulty}
@@ -18,19 +19,19 @@ grants_more before x after =
     sum_by-append f before (x ∷ after) ∙ (ap (λ (k : ℕ). grants before + k) (sum_by-append f (x ∷ []) after)
     ∙ ap (λ (k : ℕ). grants before + (k + grants after)) (zero-add (cond (is_grant x.1) 1 0)))
 
-few_grants : (t : Bool) (g : ℕ) → g ≤ 1024 → (t && leb 1024 g) ≡ false → g + (cond t 1 0 + 0) ≤ 1024
-few_grants true g few test = omega (arith, leb-false 1024 g test)
+few_grants : (t : Bool) (g : ℕ) → g ≤ MOST_GRANTS → (t && leb MOST_GRANTS g) ≡ false → g + (cond t 1 0 + 0) ≤ MOST_GRANTS
+few_grants true g few test = omega (arith, leb-false MOST_GRANTS g test)
 few_grants false g few test = omega arith
 
 few_more : (before : Commands) (n : ℕ) (c : Command) → AreFew before → is_one_too_many before c ≡ false → AreFew (before ++ (n, c) ∷ [])
 few_more before n c few test =
-    let parts = or_parts (leb 4096 (length before)) (is_grant c && leb 1024 (grants before)) test in
+    let parts = or_parts (leb MOST_COMMANDS (length before)) (is_grant c && leb MOST_GRANTS (grants before)) test in
     let len = length-append before ((n, c) ∷ []) in
-    (omega (arith, leb-false 4096 (length before) parts.0), omega (arith, grants_more before (n, c) [], few_grants (is_grant c) (grants before) few.1 parts.1))
+    (omega (arith, leb-false MOST_COMMANDS (length before) parts.0), omega (arith, grants_more before (n, c) [], few_grants (is_grant c) (grants before) few.1 parts.1))
 
-has_room : (t : Bool) (l g more : ℕ) → l < 4096 → g + (cond t 1 0 + more) ≤ 1024 → (leb 4096 l || (t && leb 1024 g)) ≡ false
-has_room true l g more short few = rw (lt-leb 4096 l short, lt-leb 1024 g (omega arith)) refl
-has_room false l g more short few = rw (lt-leb 4096 l short) refl
+has_room : (t : Bool) (l g more : ℕ) → l < MOST_COMMANDS → g + (cond t 1 0 + more) ≤ MOST_GRANTS → (leb MOST_COMMANDS l || (t && leb MOST_GRANTS g)) ≡ false
+has_room true l g more short few = rw (lt-leb MOST_COMMANDS l short, lt-leb MOST_GRANTS g (omega arith)) refl
+has_room false l g more short few = rw (lt-leb MOST_COMMANDS l short) refl
 
 not_too_many : (before : Commands) (n : ℕ) (c : Command) (after : Commands) → AreFew (before ++ (n, c) ∷ after) → is_one_too_many before c ≡ false
 not_too_many before n c after few =
@@ -157,37 +158,37 @@ spelled_read before (line ∷ lines) behind (c ∷ commands) s few =
 none_few : AreFew []
 none_few = (omega arith, omega arith)
 
-is_short : (t : Bool) (r : Result Commands Refusal) (all : Commands) → cond t (Err (refusal 1048576 cause.Long)) r ≡ Ok all → (t ≡ false) × (r ≡ Ok all)
+is_short : (t : Bool) (r : Result Commands Refusal) (all : Commands) → cond t (Err (refusal MOST_SCRIPT_BYTES cause.Long)) r ≡ Ok all → (t ≡ false) × (r ≡ Ok all)
 is_short true r all e = absurd cc
 is_short false r all e = (refl, e)
 
 pub scripts_are_spelled : (text : List ℕ) (commands : Commands) → script_of text ≡ Ok commands → IsSpelled text commands
 scripts_are_spelled text commands e =
-    let short = is_short (ltb 1048576 (length text)) (commands_after [] (kept_lines text)) commands e in
+    let short = is_short (ltb MOST_SCRIPT_BYTES (length text)) (commands_after [] (kept_lines text)) commands e in
     let read = lines_read [] (kept_lines text) commands none_few short.1 in
     record {
-      short = ltb-false 1048576 (length text) short.0;
+      short = ltb-false MOST_SCRIPT_BYTES (length text) short.0;
       lines = subst (Spells (kept_lines text)) (sym read.parts) read.spelled;
       few = read.few;
     }
 
 pub spelled_are_scripts : (text : List ℕ) (commands : Commands) → IsSpelled text commands → script_of text ≡ Ok commands
 spelled_are_scripts text commands s =
-    rw (le-ltb 1048576 (length text) s.short)
+    rw (le-ltb MOST_SCRIPT_BYTES (length text) s.short)
     (ap (commands_after []) (sym (append-nil (kept_lines text))) ∙ spelled_read [] (kept_lines text) [] commands s.lines s.few)
 
 refusal_parts : (place number c : ℕ) (why : Cause) → ◌≡◌ {A = Refusal} (record { place = place; cause = c }) (refusal number why) → (place ≡ number) × (c ≡ cause_number why)
 refusal_parts place number c why e = (ap (λ (r : Refusal). r.place) e, ap (λ (r : Refusal). r.cause) e)
 
-refused_by_length : (t : Bool) (text : List ℕ) (place c : ℕ) → ltb 1048576 (length text) ≡ t → cond t (Err (refusal 1048576 cause.Long)) (commands_after [] (kept_lines text)) ≡ Err (record { place = place; cause = c }) → IsFaulty text place c
+refused_by_length : (t : Bool) (text : List ℕ) (place c : ℕ) → ltb MOST_SCRIPT_BYTES (length text) ≡ t → cond t (Err (refusal MOST_SCRIPT_BYTES cause.Long)) (commands_after [] (kept_lines text)) ≡ Err (record { place = place; cause = c }) → IsFaulty text place c
 refused_by_length true text place c long e =
-    let told = refusal_parts place 1048576 c cause.Long (sym (err_same (refusal 1048576 cause.Long) (record { place = place; cause = c }) e)) in
-    inl (ltb-true 1048576 (length text) long, told.0, told.1)
+    let told = refusal_parts place MOST_SCRIPT_BYTES c cause.Long (sym (err_same (refusal MOST_SCRIPT_BYTES cause.Long) (record { place = place; cause = c }) e)) in
+    inl (ltb-true MOST_SCRIPT_BYTES (length text) long, told.0, told.1)
 refused_by_length false text place c short e =
     let s = lines_stop [] (kept_lines text) (record { place = place; cause = c }) none_few e in
     let told = refusal_parts place s.number c s.why s.told in
     inr (
-      ltb-false 1048576 (length text) short,
+      ltb-false MOST_SCRIPT_BYTES (length text) short,
       (
         s.why,
         told.1,
@@ -205,7 +206,7 @@ refused_by_length false text place c short e =
     )
 
 pub refused_is_faulty : (text : List ℕ) (place c : ℕ) → script_of text ≡ Err (record { place = place; cause = c }) → IsFaulty text place c
-refused_is_faulty text place c e = refused_by_length (ltb 1048576 (length text)) text place c refl e
+refused_is_faulty text place c e = refused_by_length (ltb MOST_SCRIPT_BYTES (length text)) text place c refl e
 
 first_refused : (lines : List (ℕ × List (List ℕ))) (number : ℕ) (why : Cause) → IsFirstRefused lines number why → commands_after [] lines ≡ Err (refusal number why)
 first_refused lines number why s =
@@ -213,6 +214,6 @@ first_refused lines number why s =
     ap (commands_after []) s.parts ∙ (spelled_read [] s.front ((number, s.words) ∷ s.back) s.commands s.spelled s.few ∙ stop)
 
 pub faulty_is_refused : (text : List ℕ) (place c : ℕ) → IsFaulty text place c → script_of text ≡ Err (record { place = place; cause = c })
-faulty_is_refused text place c (inl long) = rw (lt-ltb 1048576 (length text) long.0, long.1, long.2) refl
+faulty_is_refused text place c (inl long) = rw (lt-ltb MOST_SCRIPT_BYTES (length text) long.0, long.1, long.2) refl
 faulty_is_refused text place c (inr short) =
-    rw (le-ltb 1048576 (length text) short.0, short.1.1) (first_refused (kept_lines text) place short.1.0 short.1.2)
+    rw (le-ltb MOST_SCRIPT_BYTES (length text) short.0, short.1.1) (first_refused (kept_lines text) place short.1.0 short.1.2)

@@ -5,6 +5,7 @@ use Rattle.std.proofs.lemmas.Bool.{eqb-true, le-leb}
 use Rattle.hex.specs.Hex as kit
 use Rattle.hex.specs.declared.error.FromHexError.{FromHexError}
 use Rattle.hex.specs.declared.error.FromHexError.TheVariants.{OddLength}
+use Rattle.line_text.specs.declared.limits.TheConstants.{MOST_MOVED_BYTES}
 use Rattle.line_text.specs.Hex.{◌>>=◌, hex_digit, hex_bytes, hex_of}
 
 -- one pair of digits, and what stands behind it
@@ -45,5 +46,5 @@ pub result_ok-decode_of : (word : List ℕ) → result_ok (kit.decode_of word) �
 result_ok-decode_of word = is_even_or_odd word (eqb (length word % 2) 1) refl
 
 -- a word of a lawful length
-pub hex_of_sized : (word : List ℕ) → 2 ≤ length word → length word ≤ 8192 → hex_of word ≡ hex_bytes word
-hex_of_sized word low high = rw (le-leb 2 (length word) low, le-leb (length word) 8192 high) refl
+pub hex_of_sized : (word : List ℕ) → 2 ≤ length word → length word ≤ 2 * MOST_MOVED_BYTES → hex_of word ≡ hex_bytes word
+hex_of_sized word low high = rw (le-leb 2 (length word) low, le-leb (length word) (2 * MOST_MOVED_BYTES) high) refl

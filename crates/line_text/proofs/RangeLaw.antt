@@ -3,6 +3,8 @@ use Rattle.std.proofs.Common.{◌≡◌, ℕ, ◌^◌, ◌+◌, ◌-◌, ◌*◌
 use Rattle.std.specs.Str.{bytes_eq}
 use Rattle.std.specs.Option.{ok_or, option_and_then}
 use Rattle.std.proofs.lemmas.Bool.Decides.{nat_tests}
+use Rattle.units.specs.declared.TheConstants.{PAGE, LAST_MOMENT}
+use Rattle.line_text.specs.declared.limits.TheConstants.{MOST_SCRIPT_BYTES, LAST_CLIENT, MOST_SEGMENT_PAGES, MOST_MOVED_BYTES}
 use Rattle.line_text.specs.declared.cause.Cause.{Cause}
 use Rattle.line_text.specs.declared.cause.Cause.TheVariants as cause
 use Rattle.line_text.specs.declared.command.Command.{Command}
@@ -11,7 +13,7 @@ use Rattle.line_text.specs.Number.{number_of, within}
 use Rattle.line_text.specs.Lines.{kept_lines}
 use Rattle.line_text.specs.Hex.{hex_bytes, hex_digit}
 use Rattle.line_text.specs.Script.{◌>>=◌, Commands, number, bytes, grant, lock, unlock, write, read, try_purge, command_of, next_command, is_one_too_many, at_line, commands_after, script_of}
-use Rattle.line_text.specs.Ranges.{IsBetween, IsInRange, AreInRange}
+use Rattle.line_text.specs.Ranges.{IsBetween, IsByteCount, IsInRange, AreInRange}
 
 -- what a first step gave, and what the second made of it
 bind_ok : {A B E : Type 0} (r : Result A E) (f : A → Result B E) (y : B) → (r >>= f) ≡ Ok y → (x : A) × (r ≡ Ok x) × (f x ≡ Ok y)
@@ -59,29 +61,29 @@ hex_length (h ∷ l ∷ digits) content e =
     some_same (λ bs. 2 * length bs ≡ length (h ∷ l ∷ digits)) ((high.0 * 16 + low.0) ∷ rest.0) content (Some ((high.0 * 16 + low.0) ∷ rest.0)) rest.2 refl
     (omega (arith, hex_length digits rest.0 rest.1))
 
-hex_between : (word content : List ℕ) (b : Bool) → (nat_le 2 (length word) && nat_le (length word) 8192) ≡ b
-    → ok_or (cond b (hex_bytes word) None) cause.Bytes ≡ Ok content → IsBetween 1 4096 (length content)
+hex_between : (word content : List ℕ) (b : Bool) → (nat_le 2 (length word) && nat_le (length word) (2 * MOST_MOVED_BYTES)) ≡ b
+    → ok_or (cond b (hex_bytes word) None) cause.Bytes ≡ Ok content → IsByteCount (length content)
 hex_between word content true test e = found (hex_bytes word) refl e
   where
-    found : (o : Option (List ℕ)) → hex_bytes word ≡ o → ok_or o cause.Bytes ≡ Ok content → IsBetween 1 4096 (length content)
+    found : (o : Option (List ℕ)) → hex_bytes word ≡ o → ok_or o cause.Bytes ≡ Ok content → IsByteCount (length content)
     found None is h = cc
     found (Some bs) is h =
         let sized = hex_length word bs is in
         let least : 2 ≤ length word = grind (arith, nat_tests) in
-        let most : length word ≤ 8192 = grind (arith, nat_tests) in
-        ok_same (λ (c : List ℕ). IsBetween 1 4096 (length c)) bs content (Ok bs) h refl (omega arith, omega arith)
+        let most : length word ≤ 2 * MOST_MOVED_BYTES = grind (arith, nat_tests) in
+        ok_same (λ (c : List ℕ). IsByteCount (length c)) bs content (Ok bs) h refl (omega arith, omega arith)
 hex_between word content false test e = cc
 
-bytes_between : (word content : List ℕ) → bytes word ≡ Ok content → IsBetween 1 4096 (length content)
-bytes_between word content e = hex_between word content (nat_le 2 (length word) && nat_le (length word) 8192) refl e
+bytes_between : (word content : List ℕ) → bytes word ≡ Ok content → IsByteCount (length content)
+bytes_between word content e = hex_between word content (nat_le 2 (length word) && nat_le (length word) (2 * MOST_MOVED_BYTES)) refl e
 
 grant_in : (words : List (List ℕ)) (command : Command) → grant words ≡ Ok command → IsInRange command
 grant_in (c ∷ n ∷ t ∷ []) command e =
     let owner = bind_ok (number c 1 64) _ command e in
     let pages = bind_ok (number n 1 512) _ command owner.2 in
-    let at = bind_ok (number t 1 (2 ^ 62)) _ command pages.2 in
+    let at = bind_ok (number t 1 LAST_MOMENT) _ command pages.2 in
     ok_same IsInRange (Grant owner.0 pages.0 at.0) command (Ok (Grant owner.0 pages.0 at.0)) at.2 refl
-    (number_between c 1 64 owner.0 owner.1, number_between n 1 512 pages.0 pages.1, number_between t 1 (2 ^ 62) at.0 at.1)
+    (number_between c 1 LAST_CLIENT owner.0 owner.1, number_between n 1 MOST_SEGMENT_PAGES pages.0 pages.1, number_between t 1 LAST_MOMENT at.0 at.1)
 grant_in _ command e = cc
 
 lock_in : (words : List (List ℕ)) (command : Command) → lock words ≡ Ok command → IsInRange command
@@ -90,7 +92,7 @@ lock_in (s ∷ f ∷ n ∷ []) command e =
     let first = bind_ok (number f 0 511) _ command id.2 in
     let count = bind_ok (number n 1 512) _ command first.2 in
     ok_same IsInRange (Lock id.0 first.0 count.0) command (Ok (Lock id.0 first.0 count.0)) count.2 refl
-    (number_between f 0 511 first.0 first.1, number_between n 1 512 count.0 count.1)
+    (number_between f 0 (MOST_SEGMENT_PAGES - 1) first.0 first.1, number_between n 1 MOST_SEGMENT_PAGES count.0 count.1)
 lock_in _ command e = cc
 
 unlock_in : (words : List (List ℕ)) (command : Command) → unlock words ≡ Ok command → IsInRange command
@@ -98,9 +100,9 @@ unlock_in (s ∷ f ∷ n ∷ t ∷ []) command e =
     let id = bind_ok (number s 0 (2 ^ 64 - 1)) _ command e in
     let first = bind_ok (number f 0 511) _ command id.2 in
     let count = bind_ok (number n 1 512) _ command first.2 in
-    let at = bind_ok (number t 1 (2 ^ 62)) _ command count.2 in
+    let at = bind_ok (number t 1 LAST_MOMENT) _ command count.2 in
     ok_same IsInRange (Unlock id.0 first.0 count.0 at.0) command (Ok (Unlock id.0 first.0 count.0 at.0)) at.2 refl
-    (number_between f 0 511 first.0 first.1, number_between n 1 512 count.0 count.1, number_between t 1 (2 ^ 62) at.0 at.1)
+    (number_between f 0 (MOST_SEGMENT_PAGES - 1) first.0 first.1, number_between n 1 MOST_SEGMENT_PAGES count.0 count.1, number_between t 1 LAST_MOMENT at.0 at.1)
 unlock_in _ command e = cc
 
 write_in : (words : List (List ℕ)) (command : Command) → write words ≡ Ok command → IsInRange command
@@ -109,23 +111,23 @@ write_in (s ∷ p ∷ h ∷ []) command e =
     let place = bind_ok (number p 0 2097151) _ command id.2 in
     let content = bind_ok (bytes h) _ command place.2 in
     ok_same IsInRange (Write id.0 place.0 content.0) command (Ok (Write id.0 place.0 content.0)) content.2 refl
-    (number_between p 0 2097151 place.0 place.1, bytes_between h content.0 content.1)
+    (number_between p 0 (MOST_SEGMENT_PAGES * PAGE - 1) place.0 place.1, bytes_between h content.0 content.1)
 write_in _ command e = cc
 
 read_in : (words : List (List ℕ)) (command : Command) → read words ≡ Ok command → IsInRange command
 read_in (s ∷ p ∷ r ∷ []) command e =
     let id = bind_ok (number s 0 (2 ^ 64 - 1)) _ command e in
     let place = bind_ok (number p 0 2097151) _ command id.2 in
-    let count = bind_ok (number r 1 4096) _ command place.2 in
+    let count = bind_ok (number r 1 MOST_MOVED_BYTES) _ command place.2 in
     ok_same IsInRange (Read id.0 place.0 count.0) command (Ok (Read id.0 place.0 count.0)) count.2 refl
-    (number_between p 0 2097151 place.0 place.1, number_between r 1 4096 count.0 count.1)
+    (number_between p 0 (MOST_SEGMENT_PAGES * PAGE - 1) place.0 place.1, number_between r 1 MOST_MOVED_BYTES count.0 count.1)
 read_in _ command e = cc
 
 try_in : (words : List (List ℕ)) (command : Command) → try_purge words ≡ Ok command → IsInRange command
 try_in (s ∷ t ∷ []) command e =
     let id = bind_ok (number s 0 (2 ^ 64 - 1)) _ command e in
-    let at = bind_ok (number t 1 (2 ^ 62)) _ command id.2 in
-    ok_same IsInRange (Try id.0 at.0) command (Ok (Try id.0 at.0)) at.2 refl (number_between t 1 (2 ^ 62) at.0 at.1)
+    let at = bind_ok (number t 1 LAST_MOMENT) _ command id.2 in
+    ok_same IsInRange (Try id.0 at.0) command (Ok (Try id.0 at.0)) at.2 refl (number_between t 1 LAST_MOMENT at.0 at.1)
 try_in _ command e = cc
 
 -- by the command's own word
@@ -169,4 +171,4 @@ after_in before (line ∷ lines) commands w e =
 
 pub script_in : (text : List ℕ) (commands : Commands) → script_of text ≡ Ok commands → AreInRange commands
 script_in text commands e =
-    either (AreInRange commands) (nat_lt 1048576 (length text)) _ _ _ e (λ long. cc) (λ kept. after_in [] (kept_lines text) commands tt kept)
+    either (AreInRange commands) (nat_lt MOST_SCRIPT_BYTES (length text)) _ _ _ e (λ long. cc) (λ kept. after_in [] (kept_lines text) commands tt kept)

@@ -1,6 +1,8 @@
 -- Bytes in hexadecimal digits.
 use Rattle.std.specs.Prelude.{ℕ, ◌+◌, ◌-◌, ◌*◌, ◌&&◌, nat_le, if◌then◌else◌, List, [], ◌∷◌, length, Option, Some, None, option_and_then}
+use Rattle.line_text.specs.declared.limits.TheConstants.{MOST_MOVED_BYTES}
 
+-- the second step, if the first gave a value
 infixl 10 ◌>>=◌
 abbrev pub ◌>>=◌ : {A B : Type 0} → Option A → (A → Option B) → Option B
 o >>= f = option_and_then f o
@@ -23,6 +25,8 @@ hex_bytes (high ∷ low ∷ digits) = do
   bytes ← hex_bytes digits
   Some ((h * 16 + l) ∷ bytes)
 
--- the bytes that a word of 2 to 8192 hexadecimal digits stands for, if it is one: their number is even
+-- the bytes that a word of hexadecimal digits stands for, if it is one
 abbrev pub hex_of : List ℕ → Option (List ℕ)
-hex_of word = if nat_le 2 (length word) && nat_le (length word) 8192 then hex_bytes word else None
+hex_of word =
+    if nat_le 2 (length word) && nat_le (length word) (2 * MOST_MOVED_BYTES) then hex_bytes word
+    else None

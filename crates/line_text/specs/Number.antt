@@ -10,7 +10,9 @@ decimal_value (b ∷ bs) = (b - 48) * 10 ^ length bs + decimal_value bs
 
 -- the value, if all bytes are digits and it is at most 18446744073709551615
 abbrev pub decimal_of : List ℕ → Option ℕ
-decimal_of word = if list_all is_ascii_digit word && nat_lt (decimal_value word) (2 ^ 64) then Some (decimal_value word) else None
+decimal_of word =
+    if list_all is_ascii_digit word && nat_lt (decimal_value word) (2 ^ 64)
+    then Some (decimal_value word) else None
 
 -- the number that a word is, if it is one: one or more digits, with no zero in front of others
 abbrev pub number_of : List ℕ → Option ℕ

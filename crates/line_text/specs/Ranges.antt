@@ -1,6 +1,9 @@
 -- The ranges of a script's commands.
-use Rattle.std.specs.Prelude.{ℕ, ◌^◌, ◌≤◌, length}
+use Rattle.std.specs.Prelude.{ℕ, ◌-◌, ◌*◌, ◌≤◌, length}
 use Rattle.std.specs.List.{AllByRecursion}
+use Rattle.units.specs.declared.TheConstants.{PAGE}
+use Rattle.units.specs.Moment.{IsMoment}
+use Rattle.line_text.specs.declared.limits.TheConstants.{LAST_CLIENT, MOST_SEGMENT_PAGES, MOST_MOVED_BYTES}
 use Rattle.line_text.specs.declared.command.Command.{Command}
 use Rattle.line_text.specs.declared.command.Command.TheVariants.{Grant, Lock, Unlock, Write, Read, Try}
 use Rattle.line_text.specs.Script.{Commands}
@@ -9,14 +12,30 @@ use Rattle.line_text.specs.Script.{Commands}
 abbrev pub IsBetween : ℕ → ℕ → ℕ → Type 0
 IsBetween least most n = (least ≤ n) × (n ≤ most)
 
+-- a page that a range of pages begins with
+abbrev pub IsFirstPage : ℕ → Type 0
+IsFirstPage first = IsBetween 0 (MOST_SEGMENT_PAGES - 1) first
+
+-- a count of pages
+abbrev pub IsPageCount : ℕ → Type 0
+IsPageCount count = IsBetween 1 MOST_SEGMENT_PAGES count
+
+-- the place of a byte in a segment
+abbrev pub IsBytePlace : ℕ → Type 0
+IsBytePlace place = IsBetween 0 (MOST_SEGMENT_PAGES * PAGE - 1) place
+
+-- a count of bytes
+abbrev pub IsByteCount : ℕ → Type 0
+IsByteCount count = IsBetween 1 MOST_MOVED_BYTES count
+
 -- each word of a command lies in its range
 abbrev pub IsInRange : Command → Type 0
-IsInRange (Grant client pages at) = IsBetween 1 64 client × IsBetween 1 512 pages × IsBetween 1 (2 ^ 62) at
-IsInRange (Lock id first count) = IsBetween 0 511 first × IsBetween 1 512 count
-IsInRange (Unlock id first count at) = IsBetween 0 511 first × IsBetween 1 512 count × IsBetween 1 (2 ^ 62) at
-IsInRange (Write id place bytes) = IsBetween 0 2097151 place × IsBetween 1 4096 (length bytes)
-IsInRange (Read id place count) = IsBetween 0 2097151 place × IsBetween 1 4096 count
-IsInRange (Try id at) = IsBetween 1 (2 ^ 62) at
+IsInRange (Grant client pages at) = IsBetween 1 LAST_CLIENT client × IsPageCount pages × IsMoment at
+IsInRange (Lock id first count) = IsFirstPage first × IsPageCount count
+IsInRange (Unlock id first count at) = IsFirstPage first × IsPageCount count × IsMoment at
+IsInRange (Write id place bytes) = IsBytePlace place × IsByteCount (length bytes)
+IsInRange (Read id place count) = IsBytePlace place × IsByteCount count
+IsInRange (Try id at) = IsMoment at
 
 -- so does each word of each command
 abbrev pub AreInRange : Commands → Type 0

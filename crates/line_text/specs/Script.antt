@@ -1,8 +1,10 @@
 -- Scripts: what each text is, a list of commands or the first place where it is refused.
-use Rattle.std.specs.Prelude.{◌≡◌, ℕ, ◌-◌, ◌^◌, Bool, true, false, ◌&&◌, ◌||◌, nat_lt, nat_le, if◌then◌else◌, List, [], ◌∷◌, ◌++◌, length, codes, Result, Ok, Err}
+use Rattle.std.specs.Prelude.{◌≡◌, ℕ, ◌-◌, ◌*◌, ◌^◌, Bool, true, false, ◌&&◌, ◌||◌, nat_lt, nat_le, if◌then◌else◌, List, [], ◌∷◌, ◌++◌, length, codes, Result, Ok, Err}
 use Rattle.std.specs.List.{count_by}
 use Rattle.std.specs.Option.{ok_or}
 use Rattle.std.specs.Str.{bytes_eq}
+use Rattle.units.specs.declared.TheConstants.{PAGE, LAST_MOMENT}
+use Rattle.line_text.specs.declared.limits.TheConstants.{MOST_SCRIPT_BYTES, MOST_COMMANDS, MOST_GRANTS, LAST_CLIENT, MOST_SEGMENT_PAGES, MOST_MOVED_BYTES}
 use Rattle.line_text.specs.Number.{number_in}
 use Rattle.line_text.specs.Hex.{hex_of}
 use Rattle.line_text.specs.Lines.{kept_lines}
@@ -33,33 +35,33 @@ segment word = number word 0 (2 ^ 64 - 1)
 
 -- a client
 abbrev pub client : List ℕ → Result ℕ Cause
-client word = number word 1 64
+client word = number word 1 LAST_CLIENT
 
 -- a moment
 abbrev pub moment : List ℕ → Result ℕ Cause
-moment word = number word 1 (2 ^ 62)
+moment word = number word 1 LAST_MOMENT
 
 -- the first page of a range
 abbrev pub first_page : List ℕ → Result ℕ Cause
-first_page word = number word 0 511
+first_page word = number word 0 (MOST_SEGMENT_PAGES - 1)
 
 -- a count of pages
 abbrev pub page_count : List ℕ → Result ℕ Cause
-page_count word = number word 1 512
+page_count word = number word 1 MOST_SEGMENT_PAGES
 
 -- the place of a byte in a segment
 abbrev pub byte_place : List ℕ → Result ℕ Cause
-byte_place word = number word 0 2097151
+byte_place word = number word 0 (MOST_SEGMENT_PAGES * PAGE - 1)
 
 -- a count of bytes
 abbrev pub byte_count : List ℕ → Result ℕ Cause
-byte_count word = number word 1 4096
+byte_count word = number word 1 MOST_MOVED_BYTES
 
 -- bytes in hexadecimal digits
 abbrev pub bytes : List ℕ → Result (List ℕ) Cause
 bytes word = ok_or (hex_of word) cause.Bytes
 
--- ---- the words behind a command's own, from left to right
+-- ---- the words after a command's own, from left to right
 
 -- `grant` C N T: a segment of N pages for the client C at T
 abbrev pub grant : List (List ℕ) → Result Command Cause
@@ -127,7 +129,7 @@ command_of (name ∷ words) =
     else if bytes_eq name (codes "try") then try_purge words
     else Err cause.Word
 
--- what reading a line gives is what is said of it, unless memory is wanting
+-- what reading a line gives is what is said of it, unless it is out of memory
 abbrev pub Gives : Result Command LineFault → Result Command Cause → Type 0
 Gives (Ok command) said = said ≡ Ok command
 Gives (Err (Refused why)) said = said ≡ Err why
@@ -150,7 +152,8 @@ grants commands = count_by (λ c. is_grant c.1) commands
 
 -- whether a command is the 4,097th, or the 1,025th grant, where these stand before it
 abbrev pub is_one_too_many : Commands → Command → Bool
-is_one_too_many before command = nat_le 4096 (length before) || (is_grant command && nat_le 1024 (grants before))
+is_one_too_many before command =
+    nat_le MOST_COMMANDS (length before) || (is_grant command && nat_le MOST_GRANTS (grants before))
 
 -- the command that a line is where these stand before it, or the first cause against it
 abbrev pub next_command : Commands → List (List ℕ) → Result Command Cause
@@ -186,7 +189,8 @@ abbrev pub at_line : ℕ → Result Command Cause → Result Command Refusal
 at_line place (Ok command) = Ok command
 at_line place (Err why) = Err (refusal place why)
 
--- the commands of the lines, behind those that stand before them, or the refusal of the first line that is refused
+-- the commands of the lines, after those that stand before them, or the refusal of the first line
+-- that is refused
 abbrev pub commands_after : Commands → List (ℕ × List (List ℕ)) → Result Commands Refusal
 commands_after before [] = Ok before
 commands_after before (line ∷ lines) = do
@@ -195,7 +199,9 @@ commands_after before (line ∷ lines) = do
 
 -- what a text is as a script: its commands, or the first place where it is refused
 abbrev pub script_of : List ℕ → Result Commands Refusal
-script_of text = if nat_lt 1048576 (length text) then Err (refusal 1048576 cause.Long) else commands_after [] (kept_lines text)
+script_of text =
+    if nat_lt MOST_SCRIPT_BYTES (length text) then Err (refusal MOST_SCRIPT_BYTES cause.Long)
+    else commands_after [] (kept_lines text)
 
 -- the text is a script of these commands
 abbrev pub IsScript : List ℕ → Commands → Type 0
@@ -205,12 +211,12 @@ IsScript text commands = script_of text ≡ Ok commands
 abbrev pub IsRefused : List ℕ → ℕ → ℕ → Type 0
 IsRefused text place cause = script_of text ≡ Err (record { place = place; cause = cause })
 
--- what is answered is what a text is said to be, unless memory is wanting
+-- what is answered is what a text is said to be, unless it is out of memory
 abbrev pub Answers : Result Commands ScriptFault → Result Commands Refusal → Type 0
 Answers (Ok commands) said = said ≡ Ok commands
 Answers (Err (Bad place cause)) said = said ≡ Err (record { place = place; cause = cause })
 Answers (Err NoMemory) said = Unit {0}
 
--- what reading a text answers is what the text is, unless memory is wanting
+-- what reading a text answers is what the text is, unless it is out of memory
 abbrev pub Reads : Result Commands ScriptFault → List ℕ → Type 0
 Reads answer text = Answers answer (script_of text)

@@ -8,9 +8,9 @@ pub enum Cause {
     Word,
     /// The line has too few words for its command, or too many.
     Count,
-    /// A word that stands for a number isn't one, or is out of its range.
+    /// A word that stands for a number is no number, or is out of its range.
     Number,
-    /// A word that stands for bytes isn't 2 to 8192 hexadecimal digits, or an odd number of them.
+    /// A word that stands for bytes is not an even number of hexadecimal digits, from 2 to 8192.
     Bytes,
     /// The line is the 4,097th command, or the 1,025th that may be granted a segment.
     Many,

@@ -4,8 +4,8 @@ ghost use Rattle.line_text.specs.declared.fault.ScriptFault.TheVariants as Scrip
 ghost use Rattle.line_text.specs.Script.{fault_at};
 
 use crate::cause::Cause;
-use units::NoMemory;
 use std::alloc::{AllocError, AllocFailed};
+use units::NoMemory;
 
 /// Why a script was not read.
 #[derive(Clone, Copy, Debug, PartialEq, Eq)]
@@ -13,7 +13,7 @@ pub enum ScriptFault {
     /// The text is no script. The place is the number of the first line that is refused, or 1048576
     /// where the text is longer than that; the cause is a number as `Cause::number` gives it.
     Bad { place: u64, cause: u32 },
-    /// Memory was wanting.
+    /// It was out of memory.
     NoMemory,
 }
 

@@ -3,7 +3,7 @@ ghost use Rattle.std.specs.Option.{option_copied};
 
 use std::marker::Model;
 
-/// A line that isn't skipped, seen by contracts as its number and its words.
+/// A line that is kept, seen by contracts as its number and its words.
 #[derive(Debug, Drop)]
 pub struct Line<'a> {
     number: u64,
@@ -24,7 +24,7 @@ impl<'a> Line<'a> {
         self.number
     }
 
-    /// How many words it has, which is one at least.
+    /// How many words it has.
     pub fn words(&self) -> u64
         ensures { result ≡ length self.now.1 }
     {
@@ -47,7 +47,7 @@ pub(crate) struct Span {
     pub(crate) end: usize,
 }
 
-/// The lines of a text that aren't skipped, seen by contracts as the list of them.
+/// The lines of a text that are kept, seen by contracts as the list of them.
 #[derive(Debug, Drop)]
 pub struct Cut<'a> {
     pub(crate) words: Vec<&'a [u8]>,

@@ -1,10 +1,10 @@
-ghost use Rattle.std.specs.Prelude.{◌≡◌, ◌<◌, ◌||◌, ◌==◌, [], ◌∷◌, true, false, ◌++◌, length, map, IfSome, MatchOption, position, not, IfOk, OnOk};
-ghost use Rattle.line_text.specs.Lines.{lines_of, words_of, is_feed, is_blank, is_kept, kept_lines};
-ghost use Rattle.line_text.specs.Spans.{lines_at, AreWithin};
+ghost use Rattle.std.specs.Prelude.{◌≡◌, ◌<◌, ◌||◌, ◌==◌, [], ◌∷◌, ◌++◌, length, IfSome, MatchOption, position, not, IfOk, OnOk};
+ghost use Rattle.line_text.specs.Lines.{words_of, is_feed, is_blank, kept_lines, HasNoLine, HasFirstLine, HasNoWord, HasFirstWord, IsSkipped, IsKept};
+ghost use Rattle.line_text.specs.Spans.{texts_of, lines_at, AreWithin};
 
 use crate::line::{Cut, Span};
-use units::NoMemory;
 use std::alloc::Global;
+use units::NoMemory;
 
 /// Space, TAB and CR stand between words.
 fn is_blank(byte: u8) -> bool
@@ -36,7 +36,8 @@ fn word_end(line: &[u8]) -> Option<usize>
 
 /// The first line of a text, and what follows its end.
 pub(crate) fn split_line(text: &[u8]) -> Option<(&[u8], &[u8])>
-    ensures lines { MatchOption result (lines_of text.now ≡ []) (λ line. lines_of text.now ≡ line.0.now ∷ lines_of line.1.now) }
+    ensures lines { MatchOption result (HasNoLine text.now)
+        (λ line. HasFirstLine text.now line.0.now line.1.now) }
     ensures shorter { IfSome result (λ line. length line.1.now < length text.now) }
 {
     if text.is_empty() {
@@ -50,7 +51,8 @@ pub(crate) fn split_line(text: &[u8]) -> Option<(&[u8], &[u8])>
 
 /// The first word of a line, and what follows it.
 pub(crate) fn split_word(line: &[u8]) -> Option<(&[u8], &[u8])>
-    ensures words { MatchOption result (words_of line.now ≡ []) (λ word. words_of line.now ≡ word.0.now ∷ words_of word.1.now) }
+    ensures words { MatchOption result (HasNoWord line.now)
+        (λ word. HasFirstWord line.now word.0.now word.1.now) }
     ensures some { IfSome result (λ word. 0 < length word.0.now) }
     ensures shorter { IfSome result (λ word. length word.1.now < length line.now) }
 {
@@ -64,8 +66,8 @@ pub(crate) fn split_word(line: &[u8]) -> Option<(&[u8], &[u8])>
 
 /// The first word of a line and what follows it, unless the line is skipped.
 pub(crate) fn split_kept(line: &[u8]) -> Option<(&[u8], &[u8])>
-    ensures { MatchOption result (is_kept (words_of line.now) ≡ false)
-        (λ word. (is_kept (words_of line.now) ≡ true) × (words_of line.now ≡ word.0.now ∷ words_of word.1.now)) }
+    ensures { MatchOption result (IsSkipped line.now)
+        (λ word. IsKept line.now word.0.now word.1.now) }
 {
     let (first, rest) = split_word(line)?;
     if first[0] == b'#' {
@@ -74,9 +76,9 @@ pub(crate) fn split_kept(line: &[u8]) -> Option<(&[u8], &[u8])>
     Some((first, rest))
 }
 
-/// Puts the words of a line behind those that are there.
+/// Appends the words of a line to those that are there.
 fn push_words<'a>(line: &'a [u8], words: &mut Vec<&'a [u8]>) -> Result<(), NoMemory>
-    ensures { OnOk result (map (λ w. w.now) words.new.items ≡ map (λ w. w.now) words.old.items ++ words_of line.now) }
+    ensures { OnOk result (texts_of words.new ≡ texts_of words.old ++ words_of line.now) }
 {
     let mut rest = line;
     while let Some((word, after)) = split_word(rest) {
@@ -86,7 +88,7 @@ fn push_words<'a>(line: &'a [u8], words: &mut Vec<&'a [u8]>) -> Result<(), NoMem
     Ok(())
 }
 
-/// Puts a line behind those that are there. Its first word and what follows it are given.
+/// Appends a line to those that are there. Its first word and what follows it are given.
 fn push_line<'a>(
     number: u64,
     first: &'a [u8],
@@ -107,9 +109,9 @@ fn push_line<'a>(
     Ok(())
 }
 
-/// Cuts a text into its lines and their words. Lines end with LF, words are parted by space, TAB and
-/// CR, and a line is skipped where it has no word or its first word begins with `#`. Words are
-/// borrowed from the text.
+/// Cuts a text into its lines and their words. Lines end with LF, and space, TAB and CR stand
+/// between words. A line is skipped where it has no word or its first word begins with `#`. Words
+/// are borrowed from the text.
 pub fn cut(alloc: Global, bytes: &[u8]) -> Result<Cut<'_>, NoMemory>
     ensures { IfOk result (λ lines. lines ≡ kept_lines bytes.now) }
 {

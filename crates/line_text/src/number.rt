@@ -1,9 +1,9 @@
 ghost use Rattle.std.specs.Prelude.{◌≡◌, ◌<◌, ◌≤◌, ◌+◌, ◌-◌, ◌*◌, ◌^◌, IfSome, IfNone};
 ghost use Rattle.line_text.specs.Number.{decimal_of, number_of, number_in};
 
-/// The number from `least` to `most` that a word is. None comes exactly where the word isn't one: a
-/// number is one or more decimal digits, with no zero in front of others. Digits of any length are
-/// read, and none wrap.
+/// The number from `least` to `most` that a word is. None comes exactly where the word is no such
+/// number: a number is one or more decimal digits, with no zero in front of others. A word of any
+/// length is read, and no value wraps.
 pub fn read_number(word: &[u8], least: u64, most: u64) -> Option<u64>
     ensures { result ≡ number_in word.now least most }
 {

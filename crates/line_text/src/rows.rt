@@ -1,5 +1,5 @@
 ghost use Rattle.std.specs.Prelude.{◌≡◌, ◌≢◌, [], ◌∷◌, length, IfOk, IfErr};
-ghost use Rattle.line_text.specs.Lines.{words_of};
+ghost use Rattle.line_text.specs.Lines.{words_of, HasNoWord, HasFirstWord};
 ghost use Rattle.line_text.specs.Script.{number, segment, client, moment, first_page, page_count, byte_place, byte_count, grant, lock, unlock, write, read, try_purge, command_of, Gives};
 ghost use Rattle.line_text.specs.declared.cause.Cause.TheVariants.{Count};
 
@@ -7,14 +7,15 @@ use crate::cause::Cause;
 use crate::command::Command;
 use crate::fault::LineFault;
 use crate::hexadecimal::read_hex;
+use crate::limits::{LAST_CLIENT, MOST_MOVED_BYTES, MOST_SEGMENT_PAGES};
 use crate::lines::split_word;
 use crate::number::read_number;
-use units::LAST_MOMENT;
 use std::alloc::Global;
+use units::{LAST_MOMENT, PAGE};
 
 fn next_word(line: &[u8]) -> Result<(&[u8], &[u8]), Cause>
-    ensures ok { IfOk result (λ word. words_of line.now ≡ word.0.now ∷ words_of word.1.now) }
-    ensures err { IfErr result (λ why. (why ≡ Count) × (words_of line.now ≡ [])) }
+    ensures ok { IfOk result (λ word. HasFirstWord line.now word.0.now word.1.now) }
+    ensures err { IfErr result (λ why. (why ≡ Count) × HasNoWord line.now) }
 {
     split_word(line).ok_or(Cause::Count)
 }
@@ -40,7 +41,8 @@ fn two_words(line: &[u8]) -> Result<(&[u8], &[u8]), Cause>
 }
 
 fn three_words(line: &[u8]) -> Result<(&[u8], &[u8], &[u8]), Cause>
-    ensures ok { IfOk result (λ words. words_of line.now ≡ words.0.now ∷ words.1.now ∷ words.2.now ∷ []) }
+    ensures ok { IfOk result (λ words. words_of line.now
+        ≡ words.0.now ∷ words.1.now ∷ words.2.now ∷ []) }
     ensures err { IfErr result (λ why. (why ≡ Count) × (length (words_of line.now) ≢ 3)) }
 {
     let (first, rest) = next_word(line)?;
@@ -49,7 +51,8 @@ fn three_words(line: &[u8]) -> Result<(&[u8], &[u8], &[u8]), Cause>
 }
 
 fn four_words(line: &[u8]) -> Result<(&[u8], &[u8], &[u8], &[u8]), Cause>
-    ensures ok { IfOk result (λ words. words_of line.now ≡ words.0.now ∷ words.1.now ∷ words.2.now ∷ words.3.now ∷ []) }
+    ensures ok { IfOk result (λ words. words_of line.now
+        ≡ words.0.now ∷ words.1.now ∷ words.2.now ∷ words.3.now ∷ []) }
     ensures err { IfErr result (λ why. (why ≡ Count) × (length (words_of line.now) ≢ 4)) }
 {
     let (first, rest) = next_word(line)?;
@@ -72,7 +75,7 @@ fn segment(word: &[u8]) -> Result<u64, Cause>
 fn client(word: &[u8]) -> Result<u64, Cause>
     ensures { result ≡ client word.now }
 {
-    number(word, 1, 64)
+    number(word, 1, LAST_CLIENT)
 }
 
 fn moment(word: &[u8]) -> Result<u64, Cause>
@@ -84,25 +87,25 @@ fn moment(word: &[u8]) -> Result<u64, Cause>
 fn first_page(word: &[u8]) -> Result<u64, Cause>
     ensures { result ≡ first_page word.now }
 {
-    number(word, 0, 511)
+    number(word, 0, MOST_SEGMENT_PAGES - 1)
 }
 
 fn page_count(word: &[u8]) -> Result<u64, Cause>
     ensures { result ≡ page_count word.now }
 {
-    number(word, 1, 512)
+    number(word, 1, MOST_SEGMENT_PAGES)
 }
 
 fn byte_place(word: &[u8]) -> Result<u64, Cause>
     ensures { result ≡ byte_place word.now }
 {
-    number(word, 0, 2_097_151)
+    number(word, 0, MOST_SEGMENT_PAGES * PAGE - 1)
 }
 
 fn byte_count(word: &[u8]) -> Result<u64, Cause>
     ensures { result ≡ byte_count word.now }
 {
-    number(word, 1, 4096)
+    number(word, 1, MOST_MOVED_BYTES)
 }
 
 fn grant(words: &[u8]) -> Result<Command, Cause>

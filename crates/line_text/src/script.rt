@@ -6,12 +6,13 @@ ghost use Rattle.line_text.specs.Script.{grants as grants_of, next_command, comm
 use crate::cause::Cause;
 use crate::command::Command;
 use crate::fault::{LineFault, ScriptFault};
+use crate::limits::{MOST_COMMANDS, MOST_GRANTS, MOST_SCRIPT_BYTES};
 use crate::lines::{split_kept, split_line};
 use crate::rows::command;
 use std::alloc::Global;
 use std::marker::Model;
 
-/// The commands of a script, seen by contracts as the list of them, each with the number of its line.
+/// The commands of a script, seen by contracts as their list, each with the number of its line.
 #[derive(Debug, Drop)]
 pub struct Script {
     commands: Vec<(u64, Command)>,
@@ -27,7 +28,7 @@ impl Model for Script {
 }
 
 impl Script {
-    /// How many commands there are, which is at most 4,096.
+    /// How many commands there are.
     pub fn len(&self) -> u64
         ensures { result ≡ length self.now }
     {
@@ -51,15 +52,6 @@ impl Script {
     }
 }
 
-/// The most bytes that a script has.
-const MOST_BYTES: usize = 1_048_576;
-
-/// The most commands that a script has.
-const MOST_COMMANDS: usize = 4096;
-
-/// The most commands of a script that may be granted a segment.
-const MOST_GRANTS: usize = 1024;
-
 /// Reads a script whole: its commands, or the first place where it is refused and the cause.
 ///
 /// A text of more than 1,048,576 bytes is refused before all else. Then the first line that is
@@ -68,8 +60,8 @@ const MOST_GRANTS: usize = 1024;
 pub fn read_script(alloc: Global, bytes: &[u8]) -> Result<Script, ScriptFault>
     ensures { Reads result bytes.now }
 {
-    if bytes.len() > MOST_BYTES {
-        return Err(LineFault::Refused(Cause::Long).at(MOST_BYTES as u64));
+    if bytes.len() as u64 > MOST_SCRIPT_BYTES {
+        return Err(LineFault::Refused(Cause::Long).at(MOST_SCRIPT_BYTES));
     }
     read_lines(alloc, bytes)
 }
@@ -98,11 +90,11 @@ fn read_lines(alloc: Global, text: &[u8]) -> Result<Script, ScriptFault>
     Ok(Script { commands })
 }
 
-/// The command of a line, behind the commands before it.
+/// The command of a line, after the commands before it.
 fn next_command(
     alloc: Global,
     before: &[(u64, Command)],
-    grants: usize,
+    grants: u64,
     name: &[u8],
     words: &[u8],
 ) -> Result<Command, LineFault>
@@ -110,7 +102,7 @@ fn next_command(
     ensures { Gives result (next_command before.now (name.now ∷ words_of words.now)) }
 {
     let command = command(alloc, name, words)?;
-    if before.len() >= MOST_COMMANDS || (command.is_grant() && grants >= MOST_GRANTS) {
+    if before.len() as u64 >= MOST_COMMANDS || (command.is_grant() && grants >= MOST_GRANTS) {
         return Err(LineFault::Refused(Cause::Many));
     }
     Ok(command)

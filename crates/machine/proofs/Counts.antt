@@ -1,17 +1,16 @@
 -- Granted pages: what each event adds and takes off, and that no number is counted off twice.
-use Rattle.std.proofs.Common.{◌≡◌, ◌≢◌, ◌⊎◌, ℕ, ◌+◌, ◌==◌, ◌<◌, ◌≤◌, nat_lt, nat_le, max, Bool, true, false, not, ◌&&◌, ◌||◌, cond, List, [], ◌∷◌, ◌++◌, unwrap_or, map, filter, sum, count_by, refl, sym, ap, ◌∙◌, subst, arith, eq-eqb, zero-add, ⊎_elim, inl, inr}
-use Rattle.std.proofs.lemmas.Bool.{and_parts, eqb-true, false≢true, cases_eq, ne_eqb}
+use Rattle.std.proofs.Common.{◌≡◌, ◌⊎◌, ℕ, ◌+◌, ◌==◌, nat_lt, max, Bool, true, false, not, ◌&&◌, ◌||◌, cond, List, [], ◌∷◌, ◌++◌, unwrap_or, map, filter, sum, count_by, refl, sym, ap, ◌∙◌, arith, eq-eqb, zero-add, inl, inr}
+use Rattle.std.proofs.lemmas.Bool.{and_parts, eqb-true, false≢true, ne_eqb}
 use Rattle.std.proofs.lemmas.List.Sums.{sum_by-cons}
-use Rattle.units.specs.declared.TheConstants.{MOST_PAGES}
 use Rattle.units.specs.Moment.{is_moment}
 use Rattle.machine.specs.declared.event.Event.{Event}
 use Rattle.machine.specs.declared.event.Event.TheVariants.{Grant, Lock, Unlock, Write, Try, Back}
 use Rattle.machine.specs.declared.event.Answer.{Answer}
 use Rattle.machine.specs.declared.event.Answer.TheVariants.{Granted, Held, Gone, Idle, StillHeld, Written, Taken, Used, Counted, Purged, Misuse}
 use Rattle.machine.specs.History.{History, number_of, is_begun, pages_of, client_of, is_ended, is_gone, is_held, stamp_of, known_of, left_of}
-use Rattle.machine.specs.Answers.{answered, answered_after, answer, answer_of, is_plain, is_live, can_grant, can_lock, can_unlock, can_write, can_try, can_give_back, held_count, staying, unlocked, tried, granted_numbers, granted_pages}
-use Rattle.machine.specs.Laws.{MisuseChangesNothing, IsUnchanged, CountedOnce, CountsOff, added, taken_off}
-use Rattle.machine.proofs.Sound.{IsSound, sound, all_sound, event_sound, grant_parts}
+use Rattle.machine.specs.Answers.{answered, answered_after, answer_of, is_plain, is_live, can_grant, can_lock, can_unlock, can_write, can_try, can_give_back, held_count, staying, granted_numbers, granted_pages}
+use Rattle.machine.specs.Laws.{MisuseChangesNothing, CountedOnce, added, taken_off}
+use Rattle.machine.proofs.Sound.{IsSound, sound, grant_parts}
 use Rattle.machine.proofs.Later.{answered_append}
 
 -- the pages of the numbers that pass
@@ -72,12 +71,14 @@ total_less p l m s (x ∷ xs) live was now once =
         let old : total p l (x ∷ xs) ≡ p x + total p l xs = total_cons p l x xs ∙ ap {B = ℕ} (λ b. cond b (p x) 0 + total p l xs) (ap l is ∙ was) in
         let same : p x ≡ p s = ap p is in
         omega arith
+
     later : (x == s) ≡ false → total p m xs + p s ≡ total p l xs → total p m (x ∷ xs) + p s ≡ total p l (x ∷ xs)
     later ne rest =
         let new : total p m (x ∷ xs) ≡ cond (m x) (p x) 0 + total p m xs = total_cons p m x xs in
         let old : total p l (x ∷ xs) ≡ cond (m x) (p x) 0 + total p l xs
-            = total_cons p l x xs ∙ ap {B = ℕ} (λ b. cond b (p x) 0 + total p l xs) (live x ne) in
+        = total_cons p l x xs ∙ ap {B = ℕ} (λ b. cond b (p x) 0 + total p l xs) (live x ne) in
         omega arith
+
     by_test : (times s xs ≡ 1 → total p m xs + p s ≡ total p l xs) → (b : Bool) → (x == s) ≡ b → cond {A = ℕ} (x == s) 1 0 + times s xs ≡ 1
         → total p m (x ∷ xs) + p s ≡ total p l (x ∷ xs)
     by_test less true e counted =
@@ -124,7 +125,7 @@ unfolding answered_after
 misuse_changes_nothing events e s misuse =
     let h = answered events in
     let after : answered (events ++ e ∷ []) ≡ (e, Misuse) ∷ h
-        = answered_append [] events (e ∷ []) ∙ ap (λ a. (e, a) ∷ h) misuse in
+    = answered_append [] events (e ∷ []) ∙ ap (λ a. (e, a) ∷ h) misuse in
     let same = words h e s in
     record {
       begun = ap (λ g. is_begun g s) after ∙ same.begun;
@@ -150,6 +151,7 @@ drawn_push h (Grant id client pages) s w = by_can (can_grant h id client pages) 
     joined true true new = absurd (false≢true (sym (new refl)))
     joined true false new = refl
     joined false was new = zero-add (cond was 1 0)
+
     by_can : (can : Bool) → can_grant h id client pages ≡ can
         → times s (granted_numbers ((Grant id client pages, cond can (Granted id) Misuse) ∷ h)) ≡ cond (is_begun ((Grant id client pages, cond can (Granted id) Misuse) ∷ h) s) 1 0
     by_can false e = w
@@ -168,7 +170,7 @@ unfolding answered_after
 drawn_all h [] s w = w
 drawn_all h (e ∷ events) s w = drawn_all ((e, answer_of h e) ∷ h) events s (drawn_push h e s w)
 
-drawn : (events : List Event) (s : ℕ) → times s (granted_numbers (answered events)) ≡ cond (is_begun (answered events) s) 1 0
+pub drawn : (events : List Event) (s : ℕ) → times s (granted_numbers (answered events)) ≡ cond (is_begun (answered events) s) 1 0
 unfolding answered_after is_begun granted_numbers
 drawn events s = drawn_all [] events s refl
 
@@ -197,24 +199,24 @@ changes_grant h s client pages true e w =
     let none : times s (granted_numbers h) ≡ 0 = w.drawn s ∙ ap {B = ℕ} (λ b. cond b 1 0) new in
     let itself : (s == s) ≡ true = eq-eqb s s refl in
     let live : is_live g s ≡ true
-        = ap (λ b. (b || is_begun h s) && not (is_ended h s) && not (is_gone h s)) itself
-        ∙ ap (λ b. not b && not (is_gone h s)) before.ended ∙ ap not before.gone in
+    = ap (λ b. (b || is_begun h s) && not (is_ended h s) && not (is_gone h s)) itself
+    ∙ ap (λ b. not b && not (is_gone h s)) before.ended ∙ ap not before.gone in
     let sized : pages_of g s ≡ pages = ap (λ b. cond b pages (pages_of h s)) itself in
     let rest : total (pages_of g) (is_live g) (granted_numbers h) ≡ granted_pages h
-        = total_elsewhere (pages_of g) (pages_of h) (is_live g) (is_live h) s (granted_numbers h)
-        (λ x ne. ap (λ b. cond b pages (pages_of h x)) (turned s x ne))
-        (λ x ne. ap (λ b. (b || is_begun h x) && not (is_ended h x) && not (is_gone h x)) (turned s x ne)) none in
+    = total_elsewhere (pages_of g) (pages_of h) (is_live g) (is_live h) s (granted_numbers h)
+    (λ x ne. ap (λ b. cond b pages (pages_of h x)) (turned s x ne))
+    (λ x ne. ap (λ b. (b || is_begun h x) && not (is_ended h x) && not (is_gone h x)) (turned s x ne)) none in
     let first : granted_pages g ≡ pages + total (pages_of g) (is_live g) (granted_numbers h)
-        = total_cons (pages_of g) (is_live g) s (granted_numbers h)
-        ∙ ap {B = ℕ} (λ b. cond b (pages_of g s) 0 + total (pages_of g) (is_live g) (granted_numbers h)) live
-        ∙ ap (λ n. n + total (pages_of g) (is_live g) (granted_numbers h)) sized in
+    = total_cons (pages_of g) (is_live g) s (granted_numbers h)
+    ∙ ap {B = ℕ} (λ b. cond b (pages_of g s) 0 + total (pages_of g) (is_live g) (granted_numbers h)) live
+    ∙ ap (λ n. n + total (pages_of g) (is_live g) (granted_numbers h)) sized in
     omega arith
   where
     turned : (a b : ℕ) → (b == a) ≡ false → (a == b) ≡ false
     turned a b e = ne_eqb a b (λ is. false≢true (sym e ∙ eq-eqb b a (sym is)))
 
 -- a segment that is live
-live_parts : (h : History) (s : ℕ) → is_live h s ≡ true → (is_begun h s ≡ true) × (is_ended h s ≡ false) × (is_gone h s ≡ false)
+pub live_parts : (h : History) (s : ℕ) → is_live h s ≡ true → (is_begun h s ≡ true) × (is_ended h s ≡ false) × (is_gone h s ≡ false)
 live_parts h s e =
     let live = and_parts (is_plain h s) (not (is_gone h s)) e in
     let plain = and_parts (is_begun h s) (not (is_ended h s)) live.0 in
@@ -235,15 +237,16 @@ changes_try h s now true false true e w =
     let parts = live_parts h s live in
     let g = (Try s now, Taken) ∷ h in
     let less : total (pages_of h) (is_live g) (granted_numbers h) + pages_of h s ≡ granted_pages h
-        = total_less (pages_of h) (is_live h) (is_live g) s (granted_numbers h)
-        (λ x ne. ap (λ b. is_begun h x && not (is_ended h x) && not (b || is_gone h x)) (sym (turned s x ne)))
-        live
-        (last (is_plain h s) (s == s) (is_gone h s) (eq-eqb s s refl))
-        (w.drawn s ∙ ap {B = ℕ} (λ b. cond b 1 0) parts.0) in
+    = total_less (pages_of h) (is_live h) (is_live g) s (granted_numbers h)
+    (λ x ne. ap (λ b. is_begun h x && not (is_ended h x) && not (b || is_gone h x)) (sym (turned s x ne)))
+    live
+    (last (is_plain h s) (s == s) (is_gone h s) (eq-eqb s s refl))
+    (w.drawn s ∙ ap {B = ℕ} (λ b. cond b 1 0) parts.0) in
     omega arith
   where
     turned : (a b : ℕ) → (b == a) ≡ false → (a == b) ≡ false
     turned a b e = ne_eqb a b (λ is. false≢true (sym e ∙ eq-eqb b a (sym is)))
+
     last : (a b c : Bool) → b ≡ true → (a && not (b || c)) ≡ false
     last true true c e = refl
     last false b c e = refl
@@ -264,6 +267,7 @@ changes_back h s true true e g w =
     dead true false c true e = refl
     dead false b c true e = refl
     dead a b c false e = absurd (false≢true e)
+
     by_test : (x : ℕ) (b : Bool) → (s == x) ≡ b → (is_begun h x && not (s == x || is_ended h x) && not (is_gone h x)) ≡ is_live h x
     by_test x true is = dead (is_begun h x) (s == x) (is_ended h x) (is_gone h x) (ap (λ n. is_gone h n) (sym (eqb-true s x is)) ∙ g)
     by_test x false ne = ap (λ b. is_begun h x && not (b || is_ended h x) && not (is_gone h x)) ne
@@ -273,23 +277,26 @@ changes_back h s true false e g w =
     let live : is_live h s ≡ true = all_true (is_begun h s) (not (is_ended h s)) (is_gone h s) parts.0 open_still g in
     let after = (Back s, Counted) ∷ h in
     let less : total (pages_of h) (is_live after) (granted_numbers h) + pages_of h s ≡ granted_pages h
-        = total_less (pages_of h) (is_live h) (is_live after) s (granted_numbers h)
-        (λ x ne. ap (λ b. is_begun h x && not (b || is_ended h x) && not (is_gone h x)) (sym (turned s x ne)))
-        live
-        (middle (is_begun h s) (s == s) (is_ended h s) (not (is_gone h s)) (eq-eqb s s refl))
-        (w.drawn s ∙ ap {B = ℕ} (λ b. cond b 1 0) parts.0) in
+    = total_less (pages_of h) (is_live h) (is_live after) s (granted_numbers h)
+    (λ x ne. ap (λ b. is_begun h x && not (b || is_ended h x) && not (is_gone h x)) (sym (turned s x ne)))
+    live
+    (middle (is_begun h s) (s == s) (is_ended h s) (not (is_gone h s)) (eq-eqb s s refl))
+    (w.drawn s ∙ ap {B = ℕ} (λ b. cond b 1 0) parts.0) in
     omega arith
   where
     turned : (a b : ℕ) → (b == a) ≡ false → (a == b) ≡ false
     turned a b e = ne_eqb a b (λ is. false≢true (sym e ∙ eq-eqb b a (sym is)))
+
     or_left : (a b : Bool) → (a || b) ≡ true → b ≡ false → a ≡ true
     or_left true b e f = refl
     or_left false b e f = absurd (false≢true (sym f ∙ e))
+
     all_true : (a b c : Bool) → a ≡ true → b ≡ true → c ≡ false → (a && b && not c) ≡ true
     all_true true true false p q r = refl
     all_true true true true p q r = absurd (false≢true (sym r))
     all_true true false c p q r = absurd (false≢true q)
     all_true false b c p q r = absurd (false≢true p)
+
     middle : (a b c d : Bool) → b ≡ true → (a && not (b || c) && d) ≡ false
     middle true true c d e = refl
     middle false b c d e = refl
@@ -448,7 +455,7 @@ counted_once events e =
           let g = answered (events ++ e ∷ later) in
           let second = offs g next (to_off (answer_of g next) again) in
           let stays : spent g (number_of e) ≡ true
-              = ap (λ k. spent k (number_of e)) (answered_append [] events (e ∷ later))
-              ∙ spent_later ((e, answer_of h e) ∷ h) later (number_of e) first.after in
+          = ap (λ k. spent k (number_of e)) (answered_append [] events (e ∷ later))
+          ∙ spent_later ((e, answer_of h e) ∷ h) later (number_of e) first.after in
           false≢true (sym second.before ∙ ap (λ n. spent g n) same ∙ stays);
     }

@@ -1,16 +1,15 @@
 -- What stays true of a segment whatever happens later.
-use Rattle.std.proofs.Common.{◌≡◌, ◌≢◌, ℕ, ◌+◌, ◌==◌, ◌<◌, ◌≤◌, nat_lt, nat_le, max, Bool, true, false, not, ◌&&◌, ◌||◌, cond, List, [], ◌∷◌, ◌++◌, length, take, drop, unwrap_or, refl, sym, ap, ◌∙◌, subst, arith, eq-eqb, zero, suc, ◌/◌, add-zero}
-use Rattle.std.proofs.lemmas.Bool.{and_parts, eqb-true, leb-true, false≢true}
-use Rattle.std.proofs.lemmas.List.{take-append-drop, append-nil, append_assoc}
-use Rattle.units.specs.Moment.{IsMoment, is_moment}
+use Rattle.std.proofs.Common.{◌≡◌, ◌≢◌, ℕ, ◌+◌, ◌==◌, ◌<◌, ◌≤◌, nat_lt, max, Bool, true, false, not, ◌&&◌, ◌||◌, cond, List, [], ◌∷◌, ◌++◌, length, take, drop, unwrap_or, refl, sym, ap, ◌∙◌, subst, arith, eq-eqb, suc, ◌/◌, add-zero}
+use Rattle.std.proofs.lemmas.Bool.{and_parts, eqb-true, false≢true}
+use Rattle.std.proofs.lemmas.List.{take-append-drop, append-nil}
 use Rattle.units.specs.declared.TheConstants.{PAGE}
 use Rattle.machine.specs.declared.event.Event.{Event}
 use Rattle.machine.specs.declared.event.Event.TheVariants.{Grant, Lock, Unlock, Write, Try, Back}
 use Rattle.machine.specs.declared.event.Answer.{Answer}
 use Rattle.machine.specs.declared.event.Answer.TheVariants.{Granted, Held, Gone, Idle, StillHeld, Written, Taken, Used, Counted, Purged, Misuse}
-use Rattle.machine.specs.History.{History, number_of, is_begun, pages_of, is_ended, is_gone, is_held, stamp_of, known_of, left_of, put}
-use Rattle.machine.specs.Answers.{answered, answered_after, answer, answer_of, is_plain, is_live, can_grant, can_lock, can_unlock, can_write, can_try, can_give_back, bytes_held, held_count, staying, unlocked, tried, held, gone, stamp, left, begun}
-use Rattle.machine.specs.Laws.{TakenFree, IsLost, GoneStays, StampRises, NoneLocks, LeftStays}
+use Rattle.machine.specs.History.{History, number_of, is_begun, is_gone, is_held, stamp_of, known_of, left_of, put}
+use Rattle.machine.specs.Answers.{answered, answered_after, answer_of, is_plain, can_grant, can_lock, can_unlock, can_write, can_try, can_give_back, bytes_held, held_count, staying, held, gone, stamp, left, begun}
+use Rattle.machine.specs.Laws.{TakenFree, GoneStays, StampRises, LeftStays}
 use Rattle.machine.proofs.Sound.{IsSound, sound, none_held, none_stays, grant_parts, unlock_parts}
 use Rattle.machine.proofs.Untouched.{begun_other, held_other, left_other}
 use Rattle.units.proofs.Ranges.{each_passes}
@@ -65,7 +64,7 @@ pub gone_stays : GoneStays
 unfolding answer_of
 gone_stays events later s e =
     let lost : gone (events ++ later) s ≡ true
-        = ap (λ h. is_gone h s) (answered_append [] events later) ∙ gone_later (answered events) later s e in
+    = ap (λ h. is_gone h s) (answered_append [] events later) ∙ gone_later (answered events) later s e in
     let h = answered (events ++ later) in
     record {
       gone = lost;
@@ -106,6 +105,7 @@ stamp_emptied h s first count at idle e =
   where
     above : (a b : ℕ) → 1 ≤ b → 1 ≤ max a b
     above a b p = omega arith
+
     stamped : 1 ≤ at → 1 ≤ stamp_of ((Unlock s first count at, Idle idle) ∷ h) s
     stamped some = subst (λ t. 1 ≤ t) (sym (ap (λ b. cond b (max (stamp_of h s) at) (stamp_of h s)) (eq-eqb s s refl))) (above (stamp_of h s) at some)
 
@@ -118,7 +118,7 @@ stamp_rises events later s = record {
       let h = answered events in
       let some : 1 ≤ stamp_of ((unlocked, answer_of h unlocked) ∷ h) s = stamp_emptied h s first count at idle e in
       let more : stamp_of ((unlocked, answer_of h unlocked) ∷ h) s ≤ stamp_of (answered_after h (unlocked ∷ later)) s
-          = stamp_later ((unlocked, answer_of h unlocked) ∷ h) later s in
+      = stamp_later ((unlocked, answer_of h unlocked) ∷ h) later s in
       let same : answered (events ++ unlocked ∷ later) ≡ answered_after h (unlocked ∷ later) = answered_append [] events (unlocked ∷ later) in
       let least : 1 ≤ stamp (events ++ unlocked ∷ later) s = subst (λ g. 1 ≤ stamp_of g s) (sym same) (omega arith) in
       (least, (sound (events ++ unlocked ∷ later) s).last);
@@ -235,6 +235,7 @@ rests_event h e s other w = by_test (number_of e == s) refl
     itself : number_of e ≡ s → Rests h ((e, answer_of h e) ∷ h) s
     itself is = subst (λ n. Rests h ((e, answer_of h e) ∷ h) n) is
         (rests_itself h e (subst (λ n. NoLock h e n) (sym is) other) (subst (λ n. IsAtRest h n) (sym is) w))
+
     by_test : (b : Bool) → (number_of e == s) ≡ b → Rests h ((e, answer_of h e) ∷ h) s
     by_test true is = itself (eqb-true (number_of e) s is)
     by_test false ne = rests_other h e (answer_of h e) s ne w
@@ -265,6 +266,7 @@ emptied_rests h s first count at idle e w =
     staying_none true true stay last is e = eqb-true stay 0 is
     staying_none true false stay last is e = cc
     staying_none false none stay last is e = cc
+
     rests : is_begun h s ≡ true → staying h s first count ≡ 0 → Rests h ((Unlock s first count at, Idle idle) ∷ h) s
     rests granted none = record {
       rest = record {

@@ -6,3 +6,4 @@ pub mod Whole
 pub mod Sound
 pub mod Later
 pub mod Counts
+pub mod Reducing

@@ -1,22 +1,21 @@
 -- What holds of a segment in every history of answered events.
-use Rattle.std.proofs.Common.{◌≡◌, ◌≢◌, ℕ, ◌+◌, ◌==◌, ◌<◌, ◌≤◌, nat_lt, nat_le, max, Bool, true, false, not, ◌&&◌, ◌||◌, cond, List, [], ◌∷◌, ◌++◌, length, unwrap_or, count_by, refl, sym, ap, ◌∙◌, subst, arith, eq-eqb, zero, suc, ⊎_elim, zero-add}
-use Rattle.std.specs.List.{range_with_len, list_all}
+use Rattle.std.proofs.Common.{◌≡◌, ℕ, ◌+◌, ◌==◌, ◌<◌, ◌≤◌, nat_lt, nat_le, max, Bool, true, false, not, ◌&&◌, ◌||◌, cond, List, [], ◌∷◌, length, unwrap_or, count_by, refl, sym, ap, ◌∙◌, subst, arith, eq-eqb, zero, suc, ⊎_elim, zero-add}
+use Rattle.std.specs.List.{range_with_len}
 use Rattle.std.proofs.lemmas.Bool.{and_parts, cases_eq, eqb-true, leb-true, ltb-true, false≢true}
 use Rattle.std.proofs.lemmas.Bool.Decides.{nat_tests}
 use Rattle.std.proofs.lemmas.List.Sums.{sum_by-cons}
 use Rattle.units.specs.Moment.{IsMoment, is_moment}
 use Rattle.units.specs.Range.{is_within}
 use Rattle.units.specs.declared.TheConstants.{LAST_MOMENT, MOST_PAGES}
-use Rattle.units.proofs.Ranges.{each_passes}
 use Rattle.machine.specs.declared.event.Event.{Event}
 use Rattle.machine.specs.declared.event.Event.TheVariants.{Grant, Lock, Unlock, Write, Try, Back}
 use Rattle.machine.specs.declared.event.Answer.{Answer}
 use Rattle.machine.specs.declared.event.Answer.TheVariants.{Granted, Held, Gone, Idle, StillHeld, Written, Taken, Used, Counted, Purged, Misuse}
 use Rattle.machine.specs.History.{History, number_of, is_begun, pages_of, is_ended, is_gone, is_held, stamp_of, known_of, left_of}
-use Rattle.machine.specs.Answers.{answered, answered_after, answer_of, is_plain, is_live, can_grant, can_lock, can_unlock, can_write, can_try, can_give_back, are_free, are_held, held_count, staying, unlocked, tried, bytes_held}
+use Rattle.machine.specs.Answers.{answered, answered_after, answer_of, is_plain, is_live, can_grant, can_lock, can_unlock, can_write, can_try, can_give_back, are_free, are_held, held_count, staying, bytes_held}
 use Rattle.machine.specs.Segments.{IsUnknown}
 use Rattle.machine.proofs.Untouched.{begun_other, pages_other, gone_other, held_other, stamp_other, unknown_other, unknown_misuse}
-use Rattle.machine.proofs.Whole.{answered_push, none_yet}
+use Rattle.machine.proofs.Whole.{none_yet}
 
 -- held pages lie in the segment, none is held once it is gone, the stamp is a moment where none is held, and nothing
 -- happened before the Grant
@@ -94,7 +93,7 @@ grant_sound h s client pages true e w =
     let before = w.unknown parts.0 in
     let sized : pages_of ((Grant s client pages, Granted s) ∷ h) s ≡ pages = ap (λ b. cond b pages (pages_of h s)) (same s) in
     let held : (page : ℕ) → is_held ((Grant s client pages, Granted s) ∷ h) s page ≡ nat_lt page pages
-        = λ page. ap (λ b. cond b (nat_lt page pages) (is_held h s page)) (same s) in
+    = λ page. ap (λ b. cond b (nat_lt page pages) (is_held h s page)) (same s) in
     record {
       inside = λ page e. subst (λ n. page < n) (sym sized) (ltb-true page pages (sym (held page) ∙ e));
       gone_free = λ gone. absurd (false≢true (sym before.gone ∙ gone));
@@ -135,7 +134,7 @@ lock_sound h s first count true true e g w =
 lock_sound h s first count true false e g w =
     let parts = lock_parts h s first count e in
     let held : (page : ℕ) → is_held ((Lock s first count, Held) ∷ h) s page ≡ (is_within first count page || is_held h s page)
-        = λ page. ap (λ b. b && is_within first count page || is_held h s page) (same s) in
+    = λ page. ap (λ b. b && is_within first count page || is_held h s page) (same s) in
     record {
       inside = λ page e. by_test page (is_held h s page) refl (sym (held page) ∙ e);
       gone_free = λ gone. absurd (false≢true (sym g ∙ gone));
@@ -170,7 +169,7 @@ each_fails : (f : ℕ → Bool) (first n k : ℕ) → count_by f (range_with_len
 each_fails f first zero k none low high = absurd (omega arith)
 each_fails f first (suc n) k none low high =
     let counted : cond (f first) 1 0 + count_by f (range_with_len (first + 1) n) ≡ 0
-        = sym (sum_by-cons (λ k. cond (f k) 1 0) first (range_with_len (first + 1) n)) ∙ none in
+    = sym (sum_by-cons (λ k. cond (f k) 1 0) first (range_with_len (first + 1) n)) ∙ none in
     ⊎_elim (λ same. ap f same ∙ fails (f first) (count_by f (range_with_len (first + 1) n)) counted)
     (λ other. each_fails f (first + 1) n k (rest (f first) (count_by f (range_with_len (first + 1) n)) counted) (omega arith) (omega arith))
     (cases_eq k first)
@@ -178,6 +177,7 @@ each_fails f first (suc n) k none low high =
     fails : (b : Bool) (n : ℕ) → cond b 1 0 + n ≡ 0 → b ≡ false
     fails true n e = absurd (omega arith)
     fails false n e = refl
+
     rest : (b : Bool) (n : ℕ) → cond b 1 0 + n ≡ 0 → n ≡ 0
     rest true n e = absurd (omega arith)
     rest false n e = sym (zero-add n) ∙ e
@@ -198,6 +198,7 @@ none_held h s w none page = by_test (is_held h s page) refl
   where
     counted : is_held h s page ≡ true → (is_held h s page && true) ≡ false
     counted e = each_fails (λ page. is_held h s page && true) 0 (pages_of h s) page none (omega arith) (subst (λ n. page < n) (sym (zero-add (pages_of h s))) (w.inside page e))
+
     by_test : (b : Bool) → is_held h s page ≡ b → is_held h s page ≡ false
     by_test true e = absurd (false≢true (sym (counted e) ∙ ap (λ b. b && true) e))
     by_test false e = e
@@ -209,6 +210,7 @@ none_stays h s first count w none page = by_test (is_held h s page) refl
     counted : is_held h s page ≡ true → (is_held h s page && not (is_within first count page)) ≡ false
     counted e = each_fails (λ page. is_held h s page && not (is_within first count page)) 0 (pages_of h s) page none (omega arith)
         (subst (λ n. page < n) (sym (zero-add (pages_of h s))) (w.inside page e))
+
     by_test : (b : Bool) → is_held h s page ≡ b → (not (is_within first count page) && is_held h s page) ≡ false
     by_test true e = swapped (not (is_within first count page)) (is_held h s page) ∙ counted e
     by_test false e = and_false_right (not (is_within first count page)) (is_held h s page) e
@@ -220,9 +222,9 @@ unlock_sound h s first count at false none e n w = misuse_sound h (Unlock s firs
 unlock_sound h s first count at true true e n w =
     let parts = unlock_parts h s first count at e in
     let held : (page : ℕ) → is_held ((Unlock s first count at, Idle (max (stamp_of h s) at)) ∷ h) s page ≡ (not (is_within first count page) && is_held h s page)
-        = λ page. ap (λ b. not (b && is_within first count page) && is_held h s page) (same s) in
+    = λ page. ap (λ b. not (b && is_within first count page) && is_held h s page) (same s) in
     let stamp : stamp_of ((Unlock s first count at, Idle (max (stamp_of h s) at)) ∷ h) s ≡ max (stamp_of h s) at
-        = ap (λ b. cond b (max (stamp_of h s) at) (stamp_of h s)) (same s) in
+    = ap (λ b. cond b (max (stamp_of h s) at) (stamp_of h s)) (same s) in
     record {
       inside = λ page is. w.inside page (and_parts (not (is_within first count page)) (is_held h s page) (sym (held page) ∙ is)).1;
       gone_free = λ gone page. held page ∙ and_false_right (not (is_within first count page)) (is_held h s page) (w.gone_free gone page);
@@ -233,12 +235,13 @@ unlock_sound h s first count at true true e n w =
   where
     max_below : (a b : ℕ) → a ≤ LAST_MOMENT → b ≤ LAST_MOMENT → max a b ≤ LAST_MOMENT
     max_below a b p q = omega arith
+
     max_above : (a b : ℕ) → 1 ≤ b → 1 ≤ max a b
     max_above a b p = omega arith
 unlock_sound h s first count at true false e n w =
     let parts = unlock_parts h s first count at e in
     let held : (page : ℕ) → is_held ((Unlock s first count at, StillHeld (staying h s first count)) ∷ h) s page ≡ (not (is_within first count page) && is_held h s page)
-        = λ page. ap (λ b. not (b && is_within first count page) && is_held h s page) (same s) in
+    = λ page. ap (λ b. not (b && is_within first count page) && is_held h s page) (same s) in
     record {
       inside = λ page is. w.inside page (and_parts (not (is_within first count page)) (is_held h s page) (sym (held page) ∙ is)).1;
       gone_free = λ gone page. held page ∙ and_false_right (not (is_within first count page)) (is_held h s page) (w.gone_free gone page);

@@ -1,12 +1,12 @@
 -- Laws of histories: what holds of every list of events.
-use Rattle.std.specs.Prelude.{◌≡◌, ◌≢◌, ◌⊎◌, ℕ, ◌+◌, ◌≤◌, Bool, true, false, List, [], ◌∷◌, ◌++◌}
+use Rattle.std.specs.Prelude.{◌≡◌, ◌≢◌, ◌⊎◌, ℕ, ◌+◌, ◌≤◌, true, false, List, [], ◌∷◌, ◌++◌}
 use Rattle.units.specs.Moment.{IsMoment}
 use Rattle.machine.specs.declared.event.Event.{Event}
 use Rattle.machine.specs.declared.event.Event.TheVariants.{Grant, Lock, Unlock, Try, Back}
 use Rattle.machine.specs.declared.event.Answer.{Answer}
 use Rattle.machine.specs.declared.event.Answer.TheVariants.{Granted, Held, Gone, Idle, Taken, Counted, Misuse}
-use Rattle.machine.specs.History.{History, number_of, is_begun, pages_of, client_of, is_ended, is_gone}
-use Rattle.machine.specs.Answers.{answered, answer, begun, held, stamp, gone, left, known, plain, granted}
+use Rattle.machine.specs.History.{History, number_of, pages_of, client_of, is_ended}
+use Rattle.machine.specs.Answers.{answered, answer, begun, held, stamp, gone, left, known, granted}
 
 -- a purge try is answered Taken only where no page of the segment is held
 abbrev pub TakenFree : Type 0

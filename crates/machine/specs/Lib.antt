@@ -4,3 +4,4 @@ pub mod Kept
 pub mod Segments
 pub mod Word
 pub mod Laws
+pub mod Reduction

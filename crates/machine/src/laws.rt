@@ -1,6 +1,8 @@
 //! Laws of histories. Each is the contract of a function that does nothing: it holds of every list of events.
-ghost use Rattle.std.specs.Prelude.{ℕ, List};
+ghost use Rattle.std.specs.Prelude.{ℕ, List, ◌++◌};
 ghost use Rattle.machine.specs.declared.event.Event.{Event};
+ghost use Rattle.units.specs.Moment.{IsMoment};
+ghost use Rattle.machine.specs.Reduction.{IsReduction, IsReduced, LeavesLive};
 ghost use Rattle.machine.specs.Laws.{TakenFree, GoneStays, LeftStays, StampRises, CountedOnce, MisuseChangesNothing};
 
 /// A purge try is answered Taken only where no page of the segment is held.
@@ -33,4 +35,13 @@ pub fn law_counted_once()
 /// An event that is misuse changes none of the definitions.
 pub fn law_misuse_changes_nothing()
     ensures { MisuseChangesNothing }
+{}
+
+/// After a reduction, whatever owners do in its course, granted pages are within its limit, or each segment that is
+/// still live was found used at or after its moment. The words that its tries found leave exactly the live segments.
+pub fn law_reduction_ends()
+    ensures ends { (before events : List Event) (limit now : ℕ) → IsMoment now
+        → IsReduction before limit now events → IsReduced (before ++ events) limit now }
+    ensures leaves { (before events : List Event) (limit now : ℕ) → IsMoment now
+        → IsReduction before limit now events → LeavesLive before limit now events }
 {}

@@ -1,6 +1,9 @@
+pub mod Gaps
 pub mod Numbers
 pub mod Powers
+pub mod ReadIsSpelled
 pub mod Readings
+pub mod SpelledIsRead
 pub mod Sums
 pub mod TileRows
 pub mod Written

@@ -1,3 +1,4 @@
+pub mod Grammar
 pub mod Image
 pub mod Length
 pub mod Maker

@@ -2,7 +2,8 @@
 //! in straight passes, and then the columns of each pixel.
 
 ghost use Rattle.std.specs.Prelude.{◌≡◌, ℕ, ◌+◌, ◌*◌, ◌-◌, ◌^◌, ◌<◌, ◌≤◌, min, length, sum, take, drop, slice_index};
-ghost use Rattle.tile_source.specs.Image.{sample, sum_below, mean, pixel, greatest_sample};
+ghost use Rattle.tile_source.specs.Image.{sample, sum_below, mean, pixel};
+ghost use Rattle.tile_source.specs.declared.limits.TheConstants.{MOST_MAXVAL};
 
 use crate::image::{Image, Sample};
 
@@ -22,7 +23,7 @@ fn add_samples(sums: &mut [u16], line: &[Sample])
     requires room { (i : ℕ) → i < length sums.old → slice_index sums.old i < 2 ^ 15 }
     ensures value { (i : ℕ) → i < length line.now → slice_index sums.new i ≡ slice_index sums.old i + slice_index line.now i }
     ensures rest { (i : ℕ) → length line.now ≤ i → slice_index sums.new i ≡ slice_index sums.old i }
-    ensures bound { (i : ℕ) → slice_index sums.new i ≤ slice_index sums.old i + greatest_sample }
+    ensures bound { (i : ℕ) → slice_index sums.new i ≤ slice_index sums.old i + MOST_MAXVAL }
 {
     for (i, value) in line.iter().enumerate() {
         sums[i] += u16::from(*value);
@@ -40,7 +41,7 @@ fn sum_columns(image: &Image, x: usize, y: usize, columns: usize, lines: usize, 
     requires low { y + lines ≤ image.now.height }
     ensures value { (i : ℕ) → i < length sums.old
         → slice_index sums.new i ≡ sum_below (λ j. sample image.now (x + i) (y + j)) lines }
-    ensures bound { (i : ℕ) → i < length sums.old → slice_index sums.new i ≤ greatest_sample * lines }
+    ensures bound { (i : ℕ) → i < length sums.old → slice_index sums.new i ≤ MOST_MAXVAL * lines }
 {
     sums.fill(0);
     for line in 0..lines {
@@ -52,9 +53,9 @@ fn sum_columns(image: &Image, x: usize, y: usize, columns: usize, lines: usize, 
 fn total<const N: usize>(part: &[u16]) -> u32
     requires few { N ≤ 64 }
     requires sized { length part.now ≡ N }
-    requires low { (i : ℕ) → i < length part.now → slice_index part.now i ≤ greatest_sample * N }
+    requires low { (i : ℕ) → i < length part.now → slice_index part.now i ≤ MOST_MAXVAL * N }
     ensures value { result ≡ sum part.now }
-    ensures bound { result ≤ greatest_sample * N * N }
+    ensures bound { result ≤ MOST_MAXVAL * N * N }
 {
     let mut all = 0u32;
     for value in part {
@@ -67,7 +68,7 @@ fn total<const N: usize>(part: &[u16]) -> u32
 #[tactic(auto, using(crate::proofs::Powers::square_of_side, crate::proofs::Powers::four_to))]
 fn rounded(sum: u32, z: u32) -> u8
     requires zoom { z ≤ 6 }
-    requires bounded { sum ≤ greatest_sample * 4 ^ z }
+    requires bounded { sum ≤ MOST_MAXVAL * 4 ^ z }
     ensures { result ≡ mean z sum }
 {
     ((sum + (1u32 << (2 * z)) / 2) >> (2 * z)) as u8
@@ -80,7 +81,7 @@ fn write_means<const N: usize>(sums: &[u16], z: u32, row: &mut [u8])
     requires few { N ≤ 64 }
     requires sized { length sums.now ≡ length row.old * N }
     requires narrow { length row.old ≤ 256 }
-    requires low { (i : ℕ) → i < length sums.now → slice_index sums.now i ≤ greatest_sample * N }
+    requires low { (i : ℕ) → i < length sums.now → slice_index sums.now i ≤ MOST_MAXVAL * N }
     ensures { (k : ℕ) → k < length row.old → slice_index row.new k ≡ mean z (sum (take N (drop (k * N) sums.now))) }
 {
     for (k, place) in row.iter_mut().enumerate() {

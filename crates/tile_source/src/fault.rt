@@ -1,4 +1,4 @@
-use units::NoMemory as WantOfMemory;
+use units::NoMemory as OutOfMemory;
 use std::alloc::AllocError;
 use std::error::Error;
 use std::fmt;
@@ -25,12 +25,12 @@ pub enum PgmFault {
         /// How many bytes the samples take.
         want: u64,
     },
-    /// The greatest value at this place wants samples of two bytes.
+    /// Maxval at this place wants samples of two bytes.
     WideSamples {
         /// The place of the first digit.
         at: u64,
     },
-    /// Memory was wanting.
+    /// Out of memory.
     NoMemory,
 }
 
@@ -49,13 +49,13 @@ impl fmt::Display for PgmFault {
 
 impl Error for PgmFault {}
 
-impl From<WantOfMemory> for PgmFault {
+impl From<OutOfMemory> for PgmFault {
     ghost use Rattle.std.specs.Prelude.{◌≡◌};
     ghost use Rattle.tile_source.specs.declared.fault.PgmFault.TheVariants.{NoMemory};
 
     ghost from_gives = { λ _ e. e ≡ NoMemory };
 
-    fn from(_error: WantOfMemory) -> PgmFault {
+    fn from(_error: OutOfMemory) -> PgmFault {
         PgmFault::NoMemory
     }
 }
