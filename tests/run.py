@@ -49,10 +49,10 @@ def program():
         return built
     print("the program is not built, or older than its sources: rt run proves and builds it", flush=True)
     try:
-        subprocess.run(["rt", "run", "--", "replay"], cwd=crate, stdin=subprocess.DEVNULL, stdout=subprocess.DEVNULL)
+        status = subprocess.run(["rt", "run", "--", "replay"], cwd=crate, stdin=subprocess.DEVNULL, stdout=subprocess.DEVNULL).returncode
     except FileNotFoundError:
         sys.exit("rt is not on the path: install the kit, or name a program by the variable DISCARD")
-    if not os.path.exists(built):
+    if status or not os.path.exists(built):
         sys.exit("rt run built no program")
     return built
 
