@@ -1,7 +1,7 @@
-use units::NoMemory as OutOfMemory;
 use std::alloc::AllocError;
 use std::error::Error;
 use std::fmt;
+use units::NoMemory as OutOfMemory;
 
 /// Why a file is no image that can be read. A place counts bytes from 0.
 #[derive(Clone, Copy, Debug, PartialEq, Eq, Hash)]
