@@ -1,3 +1,4 @@
+-- The first block of some pages among others, by their pages alone.
 use Rattle.std.proofs.Common.{◌≡◌, ℕ, ◌+◌, ◌*◌, ◌<◌, ◌==◌, Bool, true, false, not, cond, ◌||◌, List, [], ◌∷◌, length, get_or, map, replicate, nat_lt, Some, None, refl, sym, ap, subst, suc, ◌∙◌, arith}
 use Rattle.std.specs.List.{All, remove, position, position_or_len}
 use Rattle.std.proofs.lemmas.Bool.Decides.{nat_tests}
@@ -7,11 +8,11 @@ use Rattle.units.specs.declared.TheConstants.{PAGE}
 use Rattle.block_pool.specs.Block.{page_count, IsWiped}
 use Rattle.block_pool.specs.Stock.{is_kept, without_oldest}
 
--- whether a block has so many pages
+-- whether a block has these pages
 abbrev pub has_pages : ℕ → List ℕ → Bool
 has_pages pages bytes = page_count bytes == pages
 
--- the pages of the blocks that stay where the first one of so many pages is removed
+-- the pages of the blocks that stay where the first one of these pages is removed
 map-remove_first : (pages : ℕ) (blocks : List (List ℕ)) → map page_count (remove blocks (position_or_len (has_pages pages) blocks)) ≡ without_oldest pages (map page_count blocks)
 map-remove_first pages [] = refl
 map-remove_first pages (b ∷ blocks) =
@@ -22,7 +23,7 @@ map-remove_first pages (b ∷ blocks) =
       | false ↦ subst (λ (n : ℕ). map page_count (remove (b ∷ blocks) n) ≡ page_count b ∷ without_oldest pages (map page_count blocks)) one (ap (λ kept. page_count b ∷ kept) (map-remove_first pages blocks))
     ]
 
--- a block of so many pages is kept where there is a first one
+-- a block of these pages is kept where there is a first one
 is_kept-map : (pages : ℕ) (blocks : List (List ℕ)) → nat_lt (position_or_len (has_pages pages) blocks) (length blocks) ≡ is_kept pages (map page_count blocks)
 is_kept-map pages [] = refl
 is_kept-map pages (b ∷ blocks) =
@@ -41,11 +42,11 @@ some_true : (t : Bool) (n i : ℕ) → cond t (Some n) None ≡ Some i → (t �
 some_true true n i e = (refl, cc)
 some_true false n i e = cc
 
--- no block of so many pages has a place: none is kept
+-- no block of these pages has a place: none is kept
 pub none_kept : (pages : ℕ) (blocks : List (List ℕ)) → position (has_pages pages) blocks ≡ None → is_kept pages (map page_count blocks) ≡ false
 none_kept pages blocks e = sym (is_kept-map pages blocks) ∙ none_false _ _ e
 
--- the first block of so many pages has this place
+-- the first block of these pages has this place
 pub record IsOldest (pages : ℕ) (blocks : List (List ℕ)) (place : ℕ) : Type 0 where
   pub inside : place < length blocks
   pub found : is_kept pages (map page_count blocks) ≡ true

@@ -1,16 +1,15 @@
-ghost use Rattle.std.specs.Prelude.{◌≡◌, ◌*◌, ◌≤◌, IfOk, replicate};
+ghost use Rattle.std.specs.Prelude.{◌≡◌, ◌≤◌, IfOk};
 ghost use Rattle.std.specs.Borrow.{sem};
-ghost use Rattle.block_pool.specs.Block.{page_count, IsBlock};
-ghost use Rattle.units.specs.declared.TheConstants.{PAGE};
+ghost use Rattle.block_pool.specs.Block.{page_count, IsBlock, IsZero};
+ghost use Rattle.units.specs.declared.TheConstants.{MOST_PAGES};
 
-use crate::MOST_PAGES;
-use units::{NoMemory, PAGE};
 use std::alloc::Global;
 use std::fmt;
 use std::marker::Model;
+use units::{NoMemory, PAGE};
 
-/// Some pages of memory, 1 to 65,536 of them, seen by contracts as the list of their bytes. It cannot
-/// be copied, and only a pool makes one, so whoever has it is its one holder.
+/// Some pages of memory, 1 to 65,536 of them, seen by contracts as the list of their bytes. It
+/// cannot be copied, and only a pool makes one, so whoever has it is its one holder.
 #[derive(Drop)]
 pub struct Block {
     bytes: Vec<u8>,
@@ -19,14 +18,14 @@ pub struct Block {
 
 impl Model for Block {
     ghost use Rattle.std.specs.Prelude.{◌≡◌, ◌*◌, ◌≤◌, ℕ, List, vec_len};
-    ghost use Rattle.units.specs.declared.TheConstants.{PAGE};
-    ghost use Rattle.block_pool.specs.declared.TheConstants.{MOST_PAGES};
+    ghost use Rattle.units.specs.declared.TheConstants.{PAGE, MOST_PAGES};
 
     ghost Value = { List ℕ };
 
     ghost view = { λ b. b.bytes.items };
 
-    ghost invariant = { λ b. (vec_len b.bytes ≡ PAGE * b.pages) × (1 ≤ b.pages) × (b.pages ≤ MOST_PAGES) };
+    ghost invariant = { λ b. (vec_len b.bytes ≡ PAGE * b.pages)
+        × (1 ≤ b.pages) × (b.pages ≤ MOST_PAGES) };
 }
 
 /// Shows the pages, and not the bytes.
@@ -41,11 +40,11 @@ impl fmt::Debug for Block {
 impl Block {
     ghost use Rattle.block_pool.specs.Lending.{LendsBytes};
 
-    /// A new block of so many pages, all bytes zero.
+    /// A new block of `pages` pages, all bytes zero.
     pub(crate) fn new(alloc: Global, pages: u32) -> Result<Block, NoMemory>
         requires least { 1 ≤ pages }
         requires most { pages ≤ MOST_PAGES }
-        ensures { IfOk result (λ block. block ≡ replicate (PAGE * pages) 0) }
+        ensures { IfOk result (IsZero pages) }
     {
         Ok(Block {
             bytes: vec![in alloc; 0; PAGE as usize * pages as usize]?,
@@ -61,7 +60,7 @@ impl Block {
         self.pages
     }
 
-    /// Its bytes, 4096 of them in each page.
+    /// Its bytes, 4,096 of them in each page.
     pub fn bytes(&self) -> &[u8]
         ensures value { result.now ≡ self.now }
         ensures block { IsBlock self.now }
@@ -80,7 +79,7 @@ impl Block {
 
     /// Makes all its bytes zero.
     pub(crate) fn wipe(&mut self)
-        ensures { self.new ≡ replicate (PAGE * page_count self.old) 0 }
+        ensures { IsZero (page_count self.old) self.new }
     {
         self.bytes.fill(0);
     }

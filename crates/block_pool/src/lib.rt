@@ -8,6 +8,3 @@ mod tests;
 
 pub use block::Block;
 pub use pool::Pool;
-
-/// The most pages that a block may have.
-pub const MOST_PAGES: u32 = 65536;

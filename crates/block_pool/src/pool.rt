@@ -1,17 +1,15 @@
-ghost use Rattle.std.specs.Prelude.{◌≡◌, ◌*◌, ◌≤◌, ◌==◌, false, [], length, position, replicate, is_some, IsOk, IfOk, IfSome, IfNone, OnOk, OnErr, OnSome};
-ghost use Rattle.units.specs.Count.{next_count};
-ghost use Rattle.units.specs.declared.TheConstants.{PAGE};
-ghost use Rattle.block_pool.specs.declared.TheConstants.{MOST_PAGES};
-ghost use Rattle.block_pool.specs.Block.{page_count};
-ghost use Rattle.block_pool.specs.Stock.{is_kept, without_oldest, after_take, after_put};
+ghost use Rattle.std.specs.Prelude.{◌≡◌, ◌≤◌, ◌==◌, false, [], length, position, is_some, IsOk, IfOk, IfSome, IfNone, OnOk, OnErr, OnSome};
+ghost use Rattle.units.specs.declared.TheConstants.{MOST_PAGES};
+ghost use Rattle.block_pool.specs.Block.{page_count, IsZero};
+ghost use Rattle.block_pool.specs.Stock.{is_kept, no_blocks, without_block, with_one_made, after_take, after_put};
 
 use crate::block::Block;
-use units::NoMemory;
 use std::alloc::Global;
 use std::collections::VecDeque;
 use std::marker::Model;
+use units::NoMemory;
 
-/// Blocks that nobody else holds, all of them wiped, for the next who asks. It keeps at most as many
+/// Blocks that nobody else has, all of them wiped, for the next who asks. It keeps at most as many
 /// as it was made for, and counts the blocks that it made.
 #[derive(Debug, Drop)]
 pub struct Pool {
@@ -29,14 +27,18 @@ impl Model for Pool {
 
     ghost Value = { Stock };
 
-    ghost view = { λ p. record { kept = map page_count p.kept.items; keep = p.keep; made = p.made } };
+    ghost view = { λ p. record {
+      kept = map page_count p.kept.items;
+      keep = p.keep;
+      made = p.made;
+    } };
 
     // Every kept block is wiped, and there is room for as many as may be kept.
     ghost invariant = { λ p. All IsWiped p.kept.items
         × (deque_len p.kept ≤ p.keep) × (p.keep ≤ deque_capacity p.kept) × (p.keep < 2 ^ 32) };
 }
 
-/// Where the oldest of these blocks with so many pages stands.
+/// Where the oldest of these blocks with `pages` pages stands.
 fn oldest(kept: &VecDeque<Block>, pages: u32) -> Option<usize>
     ensures { result ≡ position (λ bytes. page_count bytes == pages) kept.now.items }
 {
@@ -46,7 +48,7 @@ fn oldest(kept: &VecDeque<Block>, pages: u32) -> Option<usize>
 impl Pool {
     /// An empty pool with room for `keep` blocks. One that keeps none takes no memory.
     pub fn new(alloc: Global, keep: u32) -> Result<Pool, NoMemory>
-        ensures empty { IfOk result (λ pool. pool ≡ record { kept = []; keep = keep; made = 0 }) }
+        ensures empty { IfOk result (λ pool. pool ≡ no_blocks keep) }
         ensures no_room { keep ≡ 0 → IsOk result }
     {
         Ok(Pool {
@@ -71,12 +73,12 @@ impl Pool {
         self.made
     }
 
-    /// A block of 1 to 65,536 pages, all bytes zero: the oldest kept one of that length, or a new one
-    /// where none is kept. Only then may memory be wanting, and the pool stays as it was.
+    /// A block of 1 to 65,536 pages, all bytes zero: the oldest kept one of that length, or a new
+    /// one where none is kept. Only then may it be out of memory, and the pool stays as it was.
     pub fn take(&mut self, alloc: Global, pages: u32) -> Result<Block, NoMemory>
         requires least { 1 ≤ pages }
         requires most { pages ≤ MOST_PAGES }
-        ensures bytes { IfOk result (λ block. block ≡ replicate (PAGE * pages) 0) }
+        ensures bytes { IfOk result (IsZero pages) }
         ensures pages { IfOk result (λ block. page_count block ≡ pages) }
         ensures after { OnOk result (self.new ≡ after_take pages self.old) }
         ensures none_kept { OnErr result (is_kept pages self.old.kept ≡ false) }
@@ -88,11 +90,11 @@ impl Pool {
         }
     }
 
-    /// The oldest kept block of so many pages, taken out of the pool.
+    /// The oldest kept block of `pages` pages, taken out of the pool.
     fn take_oldest(&mut self, pages: u32) -> Option<Block>
-        ensures bytes { IfSome result (λ block. block ≡ replicate (PAGE * pages) 0) }
+        ensures bytes { IfSome result (IsZero pages) }
         ensures found { is_some result ≡ is_kept pages self.old.kept }
-        ensures after { OnSome result (self.new ≡ record self.old { kept = without_oldest pages self.old.kept }) }
+        ensures after { OnSome result (self.new ≡ without_block pages self.old) }
         ensures same { IfNone result (self.new ≡ self.old) }
     {
         let place = oldest(&self.kept, pages)?;
@@ -103,8 +105,8 @@ impl Pool {
     fn make(&mut self, alloc: Global, pages: u32) -> Result<Block, NoMemory>
         requires least { 1 ≤ pages }
         requires most { pages ≤ MOST_PAGES }
-        ensures bytes { IfOk result (λ block. block ≡ replicate (PAGE * pages) 0) }
-        ensures after { OnOk result (self.new ≡ record self.old { made = next_count self.old.made }) }
+        ensures bytes { IfOk result (IsZero pages) }
+        ensures after { OnOk result (self.new ≡ with_one_made self.old) }
         ensures same { OnErr result (self.new ≡ self.old) }
     {
         let block = Block::new(alloc, pages)?;

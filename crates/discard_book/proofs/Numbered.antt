@@ -1,9 +1,10 @@
 -- What a table by number says of the segments in it.
-use Rattle.std.proofs.Common.{◌≡◌, ℕ, ◌==◌, ◌+◌, ◌<◌, ◌≤◌, nat_lt, true, false, not, ◌||◌, cond, List, [], ◌∷◌, ◌++◌, length, get_or, set, map, filter, All, sum, zero, suc, refl, ap, ◌∙◌, add-one, arith}
+use Rattle.std.proofs.Common.{◌≡◌, ℕ, ◌==◌, ◌+◌, ◌<◌, ◌≤◌, nat_lt, true, false, not, ◌||◌, cond, List, [], ◌∷◌, ◌++◌, length, get_or, set, map, filter, All, sum, zero, suc, refl, ap, subst, ◌∙◌, add-one, arith}
 use Rattle.std.proofs.lemmas.Bool.{cond_both, or_from, ne_eqb, eqb-true, eqb-false, cond-false}
 use Rattle.std.proofs.lemmas.Bool.Decides.{nat_tests}
+use Rattle.std.specs.List.{Contains}
 use Rattle.std.specs.List.Sorted.{IsStrictlyIncreasing}
-use Rattle.std.proofs.lemmas.List.Elements.{All-nil, All-cons}
+use Rattle.std.proofs.lemmas.List.Elements.{All-nil, All-cons, Contains-append_right}
 use Rattle.std.proofs.lemmas.List.Sums.{sum_by-cons}
 use Rattle.discard_book.specs.Live.{has_number, pages_of, AreDrawn}
 use Rattle.discard_book.specs.Legal.{is_empty}
@@ -40,6 +41,21 @@ has_number-at first k (suc place) (p ∷ more) at =
     cond_both (p == 0) (rest_of first more) ((first, p) ∷ rest_of first more) (λ segments. has_number segments k ≡ nat_lt 0 (get_or more place 0))
     (λ e. rest)
     (λ e. ap (λ b. b || has_number (rest_of first more) k) other ∙ rest)
+
+-- a number with pages has its segment
+pub segment_at : (first place : ℕ) (table : List ℕ) → place < length table → 1 ≤ get_or table place 0 → Contains (numbered first table) (first + place, get_or table place 0)
+segment_at first place [] within some = absurd (omega arith)
+segment_at first zero (p ∷ more) within some =
+    cond_both (p == 0) (rest_of first more) ((first, p) ∷ rest_of first more) (λ segments. Contains segments (first + 0, p))
+    (λ e. let none : p ≡ 0 = eqb-true p 0 e in absurd (omega arith))
+    (λ e. (zero, omega arith, ap (λ (n : ℕ). (n, p)) (omega arith)))
+segment_at first (suc place) (p ∷ more) within some =
+    let number : first + 1 + place ≡ first + suc place = omega arith in
+    let rest : Contains (rest_of first more) (first + 1 + place, get_or more place 0) = segment_at (first + 1) place more (omega arith) some in
+    let there : Contains (rest_of first more) (first + suc place, get_or more place 0) = subst (λ (n : ℕ). Contains (rest_of first more) (n, get_or more place 0)) number rest in
+    cond_both (p == 0) (rest_of first more) ((first, p) ∷ rest_of first more) (λ segments. Contains segments (first + suc place, get_or more place 0))
+    (λ e. there)
+    (λ e. Contains-append_right ((first, p) ∷ []) (rest_of first more) (first + suc place, get_or more place 0) there)
 
 -- the segments without a number
 abbrev pub without : ℕ → List (ℕ × ℕ) → List (ℕ × ℕ)

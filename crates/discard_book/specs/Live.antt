@@ -1,5 +1,6 @@
-use Rattle.std.specs.Prelude.{ℕ, ◌≤◌, ◌==◌, Bool, true, false, not, if◌then◌else◌, List, [], ◌∷◌, ◌++◌, map, filter, All, sum_by, count_by}
-use Rattle.std.specs.List.{list_any}
+-- Live segments and granted pages, as the entries of a book tell them.
+use Rattle.std.specs.Prelude.{◌≡◌, ℕ, ◌+◌, ◌≤◌, ◌==◌, Bool, true, false, not, if◌then◌else◌, List, [], ◌∷◌, ◌++◌, map, filter, All, sum_by, count_by}
+use Rattle.std.specs.List.{list_any, Contains}
 use Rattle.std.specs.List.Sorted.{IsStrictlyIncreasing}
 use Rattle.discard_book.specs.declared.entry.Entry.{Entry}
 use Rattle.discard_book.specs.declared.entry.Entry.TheVariants.{Grant, Reduced, Purge, Back}
@@ -25,13 +26,15 @@ granted_by (Reduced limit now after least) = []
 granted_by (Purge id known) = []
 granted_by (Back id) = []
 
--- the live segments: the numbers with a Grant in the list and no Purge or Back behind it, each with its pages
+-- the live segments: the numbers with a Grant in the list and no later Purge or Back, each with its
+-- pages
 abbrev pub live : List Entry → List (ℕ × ℕ)
 live [] = []
-live (Grant id client pages limit ∷ behind) = if list_any (λ entry. takes_out entry id) behind then live behind else (id, pages) ∷ live behind
-live (Reduced limit now after least ∷ behind) = live behind
-live (Purge id known ∷ behind) = live behind
-live (Back id ∷ behind) = live behind
+live (Grant id client pages limit ∷ later) =
+    if list_any (λ entry. takes_out entry id) later then live later else (id, pages) ∷ live later
+live (Reduced limit now after least ∷ later) = live later
+live (Purge id known ∷ later) = live later
+live (Back id ∷ later) = live later
 
 -- the number stands among these segments
 abbrev pub has_number : List (ℕ × ℕ) → ℕ → Bool
@@ -49,11 +52,27 @@ granted entries = pages_of (live entries)
 abbrev pub grants : List Entry → ℕ
 grants entries = count_by is_grant entries
 
--- the live segments after one more entry: without the one that it takes out, and with the one that it grants
+-- the live segments after one more entry: without the one that it takes out, and with the one that
+-- it grants
 abbrev pub live_after : List (ℕ × ℕ) → Entry → List (ℕ × ℕ)
-live_after segments entry = filter (λ segment. not (takes_out entry segment.0)) segments ++ granted_by entry
+live_after segments entry =
+    filter (λ segment. not (takes_out entry segment.0)) segments ++ granted_by entry
 
--- these segments were drawn: their numbers rise, from 1 to at most how many were drawn, and each has a page
+-- granted pages fell by those of a live segment of this number
+abbrev pub FellBySegment : List Entry → ℕ → ℕ → Type 0
+FellBySegment before id after =
+    (pages : ℕ) × Contains (live before) (id, pages) × (after + pages ≡ granted before)
+
+-- granted pages after one more entry: a Grant adds its pages, a Purge and a Back take off those of
+-- their segment, and a Reduced changes nothing
+abbrev pub GrantedFollows : List Entry → Entry → ℕ → Type 0
+GrantedFollows before (Grant id client pages limit) after = after ≡ granted before + pages
+GrantedFollows before (Reduced limit now told least) after = after ≡ granted before
+GrantedFollows before (Purge id known) after = FellBySegment before id after
+GrantedFollows before (Back id) after = FellBySegment before id after
+
+-- these segments were drawn: their numbers rise, from 1 to at most how many were drawn, and each
+-- has a page
 pub record AreDrawn (segments : List (ℕ × ℕ)) (drawn : ℕ) : Type 0 where
   pub rising : IsStrictlyIncreasing (map (λ segment. segment.0) segments)
   pub within : All (λ segment. (1 ≤ segment.0) × (segment.0 ≤ drawn)) segments

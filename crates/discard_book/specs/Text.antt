@@ -1,9 +1,10 @@
+-- The text of a book: a line for each entry.
 use Rattle.std.specs.Prelude.{ℕ, List, [], ◌∷◌, ◌++◌, Option, Some, None, codes, decimal}
 use Rattle.std.specs.List.{flat_map}
 use Rattle.discard_book.specs.declared.entry.Entry.{Entry}
 use Rattle.discard_book.specs.declared.entry.Entry.TheVariants.{Grant, Reduced, Purge, Back}
 
--- a number behind a space
+-- a space and a number
 abbrev pub spaced : ℕ → List ℕ
 spaced number = codes " " ++ decimal number
 
@@ -14,8 +15,10 @@ spaced_or_dash (Some number) = spaced number
 
 -- the words of an entry
 abbrev pub words_of : Entry → List ℕ
-words_of (Grant id client pages limit) = codes "grant" ++ spaced id ++ spaced client ++ spaced pages ++ spaced limit
-words_of (Reduced limit now after least) = codes "reduced" ++ spaced limit ++ spaced now ++ spaced after ++ spaced_or_dash least
+words_of (Grant id client pages limit) =
+    codes "grant" ++ spaced id ++ spaced client ++ spaced pages ++ spaced limit
+words_of (Reduced limit now after least) =
+    codes "reduced" ++ spaced limit ++ spaced now ++ spaced after ++ spaced_or_dash least
 words_of (Purge id known) = codes "purge" ++ spaced id ++ spaced known
 words_of (Back id) = codes "back" ++ spaced id
 

@@ -1,17 +1,18 @@
-ghost use Rattle.std.specs.Prelude.{◌≡◌, ℕ, ◌+◌, ◌^◌, ◌<◌, ◌≤◌, Bool, true, List, [], ◌∷◌, ◌++◌, IfOk, OnOk, OnErr, IsOk, IsOkAnd};
-ghost use Rattle.discard_book.specs.Live.{live, has_number, granted, grants, live_after, AreDrawn};
+ghost use Rattle.std.specs.Prelude.{◌≡◌, ◌^◌, ◌<◌, ◌≤◌, true, [], IfOk, OnOk, OnErr, IsOk, IsOkAnd};
+ghost use Rattle.discard_book.specs.Live.{live, has_number, granted, grants, AreDrawn};
 ghost use Rattle.discard_book.specs.Legal.{fits_after, has_room, is_reduced_to, last, is_empty, may_stop, IsLegal};
+ghost use Rattle.discard_book.specs.Log.{AddsEntry};
 ghost use Rattle.discard_book.specs.Text.{text_of};
 
 use crate::entry::Entry;
-use crate::segments::{MOST_PAGES, Segments};
+use crate::segments::Segments;
 use crate::text::book_text;
-use units::{LAST_MOMENT, NoMemory};
 use std::alloc::Global;
 use std::marker::Model;
+use units::{MOST_PAGES, NoMemory, is_moment};
 
-/// A manager's book, which is legal at every moment. Contracts see its entries, the oldest first, and
-/// its spare places: how many entries more it can take without memory.
+/// A manager's book, which is legal at every moment. Contracts see its entries, the oldest first,
+/// and its spare places: how many entries more it can take without memory.
 #[derive(Drop)]
 pub struct Book {
     entries: Vec<Entry>,
@@ -94,7 +95,7 @@ impl Book {
                 after,
                 least,
             } => { after == self.granted() && self.may_stop(limit, now, least) }
-            Entry::Purge { id, known } => { self.is_live(id) && known >= 1 && known <= LAST_MOMENT }
+            Entry::Purge { id, known } => self.is_live(id) && is_moment(known),
             Entry::Back { id } => self.is_live(id),
         }
     }
@@ -106,8 +107,8 @@ impl Book {
         self.segments.is_live(id)
     }
 
-    /// Whether no segment is live. Each live one has pages, so then none are granted.
-    fn is_idle(&self) -> bool
+    /// Whether no segment is live. Each live one has pages, so this is where none are granted.
+    fn nothing_is_live(&self) -> bool
         ensures { result ≡ is_empty (live self.now.entries) }
     {
         self.segments.total() == 0
@@ -126,9 +127,9 @@ impl Book {
     {
         match least {
             Some(least) => {
-                !self.is_idle() && (self.granted() <= u128::from(limit) || now <= least)
+                !self.nothing_is_live() && (self.granted() <= u128::from(limit) || now <= least)
             }
-            None => self.is_idle(),
+            None => self.nothing_is_live(),
         }
     }
 
@@ -142,14 +143,13 @@ impl Book {
         }
     }
 
-    /// Adds an entry, which takes one spare place and no memory. `spare` and `fits` tell whether it can.
+    /// Adds an entry, which takes one spare place and no memory. `spare` and `fits` tell whether it
+    /// can. A Grant adds its pages to the granted ones, and a Purge and a Back take off those of
+    /// their segment.
     pub fn add(&mut self, entry: Entry)
         requires spare { 1 ≤ self.old.spare }
         requires fits { fits_after self.old.entries entry ≡ true }
-        ensures entries { self.new.entries ≡ self.old.entries ++ entry ∷ [] }
-        ensures spare { self.new.spare + 1 ≡ self.old.spare }
-        ensures live { live self.new.entries ≡ live_after (live self.old.entries) entry }
-        ensures legal { IsLegal self.new.entries }
+        ensures { AddsEntry self.old self.new entry }
     {
         self.segments.follow(&entry);
         self.entries.push_reserved(entry);
@@ -172,8 +172,8 @@ impl Book {
         self.segments.drawn()
     }
 
-    /// All entries, the oldest first. They are legal, and the numbers of the live segments among them
-    /// rise, from 1 to at most the number of Grants.
+    /// All entries, the oldest first. They are legal, and the numbers of the live segments rise,
+    /// from 1 to at most the number of Grants.
     pub fn entries(&self) -> &[Entry]
         ensures entries { result.now ≡ self.now.entries }
         ensures legal { IsLegal self.now.entries }

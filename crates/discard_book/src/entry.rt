@@ -1,14 +1,14 @@
 /// What a manager does, as one entry of its book. A number names a segment.
 #[derive(Clone, Copy, Debug, PartialEq, Eq)]
 pub enum Entry {
-    /// A client was granted a segment of so many pages, under this limit of pages.
+    /// A client was granted a segment of some pages, under a limit of pages.
     Grant {
         id: u64,
         client: u32,
         pages: u32,
         limit: u64,
     },
-    /// A reduction to a limit of pages ended. Its Purge entries stand directly before.
+    /// A reduction to a limit of pages ended. The entries of its purges stand directly before.
     Reduced {
         limit: u64,
         /// The moment of the reduction.

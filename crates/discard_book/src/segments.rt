@@ -1,13 +1,11 @@
 ghost use Rattle.std.specs.Prelude.{◌≡◌, ℕ, ◌+◌, ◌-◌, ◌*◌, ◌^◌, ◌<◌, ◌≤◌, [], ◌∷◌, ◌++◌, sum, slice_index, slice_set, vec_len, vec_capacity, OnOk, OnErr};
+ghost use Rattle.units.specs.declared.TheConstants.{MOST_PAGES};
 ghost use Rattle.discard_book.specs.Table.{numbered, table_after, CanFollow};
 ghost use Rattle.discard_book.specs.Live.{has_number};
 
 use crate::entry::Entry;
-use units::NoMemory;
 use std::alloc::Global;
-
-/// The greatest number of pages that a segment has.
-pub(crate) const MOST_PAGES: u32 = 65536;
+use units::NoMemory;
 
 /// The live segments. Numbers are drawn in order from 1, so a table by number finds each at once.
 #[derive(Drop)]
@@ -17,7 +15,7 @@ pub(crate) struct Segments {
     /// The pages of all live segments.
     total: u128,
     ghost totalled: { total ≡ sum pages.items },
-    ghost bounded: { total ≤ 65536 * vec_len pages },
+    ghost bounded: { total ≤ MOST_PAGES * vec_len pages },
 }
 
 impl Segments {
@@ -60,7 +58,7 @@ impl Segments {
         (self.pages.capacity() - self.pages.len()) as u64
     }
 
-    /// Makes room for so many more numbers.
+    /// Makes room for `more` numbers.
     pub(crate) fn reserve(&mut self, more: usize) -> Result<(), NoMemory>
         ensures ok { OnOk result (vec_len self.new.pages + more ≤ vec_capacity self.new.pages) }
         ensures same { self.new.pages.items ≡ self.old.pages.items }
@@ -70,7 +68,7 @@ impl Segments {
         Ok(())
     }
 
-    /// Follows an entry: a Grant draws the next number, and a Purge and a Back take a live segment out.
+    /// Follows an entry: a Grant draws the next number, and a Purge and a Back take a segment out.
     pub(crate) fn follow(&mut self, entry: &Entry)
         requires room { vec_len self.old.pages < vec_capacity self.old.pages }
         requires can { CanFollow self.old.pages.items entry.now }
@@ -85,10 +83,10 @@ impl Segments {
         }
     }
 
-    /// Draws the next number, for a segment of so many pages.
+    /// Draws the next number, for a segment of `pages` pages.
     fn grant(&mut self, pages: u32)
         requires room { vec_len self.old.pages < vec_capacity self.old.pages }
-        requires few { pages ≤ 65536 }
+        requires few { pages ≤ MOST_PAGES }
         ensures pages { self.new.pages.items ≡ self.old.pages.items ++ pages ∷ [] }
         ensures len { vec_len self.new.pages ≡ vec_len self.old.pages + 1 }
         ensures capacity { vec_capacity self.old.pages ≤ vec_capacity self.new.pages }

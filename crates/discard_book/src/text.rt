@@ -3,12 +3,12 @@ ghost use Rattle.discard_book.specs.Text.{spaced_or_dash, words_of, line_of, tex
 
 use crate::entry::Entry;
 use itoa::{Buffer, Integer};
-use units::NoMemory;
 use std::alloc::Global;
+use units::NoMemory;
 
 /// The text of some entries: for each a line, ended by LF, in their order. A Grant's line is
-/// `grant ID CLIENT PAGES LIMIT`, a reduction's is `reduced LIMIT NOW AFTER LEAST` with `-` where no
-/// segment is live, and the others are `purge ID KNOWN` and `back ID`.
+/// `grant ID CLIENT PAGES LIMIT`, a reduction's is `reduced LIMIT NOW AFTER LEAST` with `-` where
+/// no segment is live, and the others are `purge ID KNOWN` and `back ID`.
 pub fn book_text(alloc: Global, entries: &[Entry]) -> Result<Vec<u8>, NoMemory>
     ensures { IfOk result (λ text. text.items ≡ text_of entries.now) }
 {

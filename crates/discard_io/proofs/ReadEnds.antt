@@ -23,7 +23,7 @@ ends_by before most room bytes between after NoMemory read taken fits short is s
     record {
       bytes = bytes ++ more.bytes;
       within = rw length-append (omega (arith, fits, more.within));
-      taken = took-append before bytes between more.bytes after taken more.taken
+      taken = took-append before bytes between more.bytes after taken more.taken;
     }
 
 -- the same where the error is handed on
@@ -35,4 +35,4 @@ pub cut_short : (before : Option (List ℕ)) (most room : ℕ) (bytes : List ℕ
 cut_short before most room bytes between after error read (Ok all) taken fits short is same lost never given = absurd given
 cut_short before most room bytes between after error read (Err given_on) taken fits short is same lost never given =
     subst (λ (e : ReadEnd). ReadsToEnd (Err e) most before after) (sym given)
-      (ends_by before most room bytes between after error read taken fits short is same lost never)
+    (ends_by before most room bytes between after error read taken fits short is same lost never)

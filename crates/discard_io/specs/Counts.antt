@@ -1,4 +1,5 @@
--- How many calls were made of an object. The count is an Option: None where the object does not tell it.
+-- How many calls were made of an object. The count is an Option: None where the object does not tell it. It
+-- stands still at the last value of u64.
 use Rattle.std.specs.Prelude.{ℕ, ◌+◌, ◌≤◌, Option, Some, None, option_map}
 use Rattle.units.specs.Count.{next_count}
 

@@ -24,6 +24,11 @@ one_more calls = record calls { made = next_count calls.made }
 abbrev pub one_more_failed : Tally → Tally
 one_more_failed calls = record calls { made = next_count calls.made; faults = next_count calls.faults }
 
+-- a source in memory that never fails: the bytes left, and how many reads were made
+pub record Supply : Type 0 where
+  pub left : List ℕ
+  pub reads : ℕ
+
 -- a source in memory: the bytes left, the most that one call moves, and its calls
 pub record Reading : Type 0 where
   pub left : List ℕ

@@ -1,4 +1,5 @@
--- What calls of sources, sinks and files move. Bytes are an Option: None where the object does not tell them.
+-- What calls of sources, sinks and files move. The bytes of an object are an Option: None where it does not
+-- tell them.
 use Rattle.std.specs.Prelude.{◌≡◌, ℕ, ◌<◌, ◌≤◌, List, [], ◌++◌, length, take, Option, Some, None, option_map}
 
 -- a call took these bytes off the front of what was left, and the rest is left, where that is told

@@ -1,18 +1,21 @@
 ghost use Rattle.std.specs.Prelude.{◌≡◌, ◌≤◌};
+ghost use Rattle.units.specs.Moment.{IsMoment};
 
-use units::LAST_MOMENT;
 use std::marker::Model;
 use std::sync::atomic::{AtomicU64, Ordering};
+use units::LAST_MOMENT;
 
 /// Where moments come from.
 pub trait Clock {
-    /// A moment. It needn't be later than the last one that was answered.
+    /// A moment. It need not be later than an earlier answer.
     fn now(&self) -> u64
-        ensures { (1 ≤ result) × (result ≤ LAST_MOMENT) };
+        ensures { IsMoment result };
 }
 
-/// A clock that counts its calls, seen as its first moment. It answers that one first, then one
-/// more at each call, and stays at the last moment.
+/// A clock that counts its calls, seen as its first moment, which no answer is before.
+///
+/// In one thread it answers that moment, then one more at each call, and stays at the last moment: a test shows it,
+/// since no clause can say what a counter holds that threads share.
 #[derive(Debug, Drop)]
 pub struct CountClock {
     first: u64,
@@ -20,20 +23,20 @@ pub struct CountClock {
 }
 
 impl Model for CountClock {
-    ghost use Rattle.std.specs.Prelude.{ℕ, ◌≤◌};
-    ghost use Rattle.units.specs.declared.TheConstants.{LAST_MOMENT};
+    ghost use Rattle.std.specs.Prelude.{ℕ};
+    ghost use Rattle.units.specs.Moment.{IsMoment};
 
     ghost Value = { ℕ };
 
     ghost view = { λ c. c.first };
 
-    ghost invariant = { λ c. (1 ≤ c.first) × (c.first ≤ LAST_MOMENT) };
+    ghost invariant = { λ c. IsMoment c.first };
 }
 
 impl CountClock {
     /// A clock that starts at this moment.
     pub fn new(first: u64) -> CountClock
-        requires { (1 ≤ first) × (first ≤ LAST_MOMENT) }
+        requires { IsMoment first }
         ensures { result ≡ first }
     {
         CountClock {
@@ -45,7 +48,7 @@ impl CountClock {
 
 impl Clock for CountClock {
     fn now(&self) -> u64
-        ensures moment { (1 ≤ result) × (result ≤ LAST_MOMENT) }
+        ensures moment { IsMoment result }
         ensures since_first { self.now ≤ result }
     {
         let calls = self.calls.fetch_add(1, Ordering::SeqCst);

@@ -3,9 +3,11 @@ ghost use Rattle.units.specs.Count.{HasRisen};
 ghost use Rattle.discard_io.specs.Streams.{IsAllOf, Exceeds};
 ghost use Rattle.discard_io.specs.declared.files.FileFault.TheVariants as faults;
 
+use crate::status::Failed;
 use std::alloc::{AllocError, Global};
 use std::error::Error;
 use std::fmt;
+use units::NoMemory;
 
 /// Why a file was not read.
 #[derive(Clone, Copy, Debug, PartialEq, Eq)]
@@ -14,7 +16,7 @@ pub enum FileFault {
     Failed,
     /// There are more bytes than the caller wants.
     TooLong,
-    /// Memory was wanting.
+    /// Out of memory.
     NoMemory,
 }
 
@@ -24,11 +26,11 @@ impl fmt::Display for FileFault {
     ghost output = { λ fault. Some (fault_text fault) };
 
     fn fmt<W: fmt::Write>(&self, f: &mut fmt::Formatter<W>) -> fmt::Result {
-        f.write_str(match self {
-            FileFault::Failed => "failed",
-            FileFault::TooLong => "too long",
-            FileFault::NoMemory => "no memory",
-        })
+        match self {
+            FileFault::Failed => Failed.fmt(f),
+            FileFault::TooLong => f.write_str("too long"),
+            FileFault::NoMemory => NoMemory.fmt(f),
+        }
     }
 }
 
@@ -50,13 +52,17 @@ pub trait Files {
     // how often they have failed
     ghost faults: { Self → ℕ };
 
-    /// All bytes under a name, at most `most` of them. `TooLong` comes exactly where more than `most` stand there,
-    /// and `Failed` only where the files had a fault in this call. What stands under each name stays.
+    /// All bytes under a name, where they are at most `most`. What stands under each name stays.
+    ///
+    /// `TooLong` comes only where more than `most` stand there, if the files tell them, and `Failed` only where the
+    /// count of faults rose in this call.
     fn read_all(&mut self, alloc: Global, name: &str, most: u64) -> Result<Vec<u8>, FileFault>
         ensures same { (any : List ℕ) → bytes self.new any ≡ bytes self.old any }
         ensures whole { IfOk result (λ found. IsAllOf (bytes self.old name.now) found.items) }
         ensures within { IfOk result (λ found. vec_len found ≤ most) }
-        ensures too_long { IsErrOf result FileFault.TooLong → Exceeds (bytes self.old name.now) most }
-        ensures failed { IsErrOf result FileFault.Failed → HasRisen (faults self.old) (faults self.new) }
+        ensures too_long { IsErrOf result FileFault.TooLong
+            → Exceeds (bytes self.old name.now) most }
+        ensures failed { IsErrOf result FileFault.Failed
+            → HasRisen (faults self.old) (faults self.new) }
         ensures later { faults self.old ≤ faults self.new };
 }

@@ -3,7 +3,7 @@
 //! and the status that a run ends with.
 //!
 //! A run is written over the traits alone. Each object counts its faults, so that a caller is told of a fault only
-//! where the object itself had one.
+//! where the object itself had one; sources and sinks also count their calls, where they tell it.
 
 mod clock;
 mod files;

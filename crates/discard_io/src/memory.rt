@@ -1,4 +1,4 @@
-//! A source, a sink and files in memory, for tests: they move a few bytes a call, and fail at chosen calls.
+//! A source, a sink and files in memory, for tests, which fail at chosen calls.
 
 pub(crate) mod calls;
 pub(crate) mod files;

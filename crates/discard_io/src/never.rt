@@ -1,50 +1,56 @@
 //! A source, a sink and files that never fail.
 ghost use Rattle.std.specs.Prelude.{◌≡◌, ◌≤◌, ◌<◌, ◌↔◌, ℕ, List, Some, None, Ok, length, take, drop, min, ◌++◌, IsOk, IfOk, IsErrOf, vec_len};
+ghost use Rattle.units.specs.Count.{next_count};
+ghost use Rattle.discard_io.specs.Memory.{Supply};
 
 use crate::files::{FileFault, Files};
 use crate::memory::remaining::Remaining;
 use crate::sink::Sink;
 use crate::source::Source;
 use crate::status::Failed;
-use units::NoMemory;
 use std::alloc::Global;
 use std::marker::Model;
+use units::NoMemory;
 
 /// A source in memory that never fails.
 #[derive(Debug, Drop)]
 pub struct NeverSource {
     left: Remaining,
+    reads: u64,
 }
 
 impl Model for NeverSource {
-    ghost Value = { List ℕ };
+    ghost Value = { Supply };
 
-    ghost view = { λ s. s.left };
+    ghost view = { λ s. record { left = s.left; reads = s.reads } };
 }
 
 impl NeverSource {
     /// A source of these bytes.
     pub fn new(alloc: Global, bytes: &[u8]) -> Result<NeverSource, NoMemory>
-        ensures { IfOk result (λ source. source ≡ bytes.now) }
+        ensures { IfOk result (λ source. source ≡ record { left = bytes.now; reads = 0 }) }
     {
         Ok(NeverSource {
             left: Remaining::new(alloc, bytes)?,
+            reads: 0,
         })
     }
 }
 
 impl Source for NeverSource {
-    ghost left = { λ left. Some left };
+    ghost left = { λ s. Some s.left };
 
-    ghost reads = { λ _. None };
+    ghost reads = { λ s. Some s.reads };
 
     ghost faults = { λ _. 0 };
 
     fn read(&mut self, buf: &mut [u8]) -> Result<usize, Failed>
-        ensures count { result ≡ Ok (min (length buf.old) (length self.old)) }
-        ensures moved { IfOk result (λ n. buf.new ≡ take n self.old ++ drop n buf.old) }
-        ensures left { IfOk result (λ n. self.new ≡ drop n self.old) }
+        ensures count { result ≡ Ok (min (length buf.old) (length self.old.left)) }
+        ensures moved { IfOk result (λ n. buf.new ≡ take n self.old.left ++ drop n buf.old) }
+        ensures left { IfOk result (λ n.
+            self.new ≡ record { left = drop n self.old.left; reads = next_count self.old.reads }) }
     {
+        self.reads = self.reads.saturating_add(1);
         Ok(self.left.read(buf))
     }
 }

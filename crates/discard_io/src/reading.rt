@@ -10,6 +10,7 @@ use crate::status::Failed;
 use std::alloc::{AllocError, Global};
 use std::error::Error;
 use std::{cmp, fmt};
+use units::NoMemory;
 
 // The most bytes that one read asks for.
 const LARGEST_READ: u64 = 1 << 16;
@@ -31,11 +32,11 @@ impl fmt::Display for ReadEnd {
     ghost output = { λ end. Some (end_text end) };
 
     fn fmt<W: fmt::Write>(&self, f: &mut fmt::Formatter<W>) -> fmt::Result {
-        f.write_str(match self {
-            ReadEnd::Failed => "failed",
-            ReadEnd::TooLong => "too long",
-            ReadEnd::NoMemory => "no memory",
-        })
+        match self {
+            ReadEnd::Failed => Failed.fmt(f),
+            ReadEnd::TooLong => f.write_str("too long"),
+            ReadEnd::NoMemory => NoMemory.fmt(f),
+        }
     }
 }
 
@@ -57,17 +58,18 @@ impl From<AllocError> for ReadEnd {
     }
 }
 
-/// All bytes that a source has left, at most `most` of them.
+/// All bytes that a source has left, where they are at most `most`, by at most `most + 1` reads.
 ///
-/// The source's bytes that were taken are dropped at each other answer than Ok: exactly `most + 1` at `TooLong`, at
-/// most `most` at `Failed`, at most `most + 1` at `NoMemory`. `Failed` comes only where the source's count of faults
-/// rose in this call. There are at most `most + 1` reads.
+/// At each other answer the bytes that were taken are lost. `TooLong` comes only where exactly `most + 1` bytes were
+/// taken. `Failed` comes only where the source's count of faults rose in this call, and then at most `most` bytes
+/// were taken. At `NoMemory` at most `most + 1` bytes were taken.
 pub fn read_to_end<S: Source>(alloc: Global, source: &mut S, most: u64) -> Result<Vec<u8>, ReadEnd>
-    requires { most < 2 ^ 64 - 1 }
+    requires { most < u64.MAX }
     ensures within { IfOk result (λ bytes. vec_len bytes ≤ most) }
     ensures took { ReadsToEnd result most (S.left source.old) (S.left source.new) }
     ensures reads { CalledAtMost (S.reads source.old) (most + 1) (S.reads source.new) }
-    ensures failed { IsErrOf result ReadEnd.Failed → HasRisen (S.faults source.old) (S.faults source.new) }
+    ensures failed { IsErrOf result ReadEnd.Failed
+        → HasRisen (S.faults source.old) (S.faults source.new) }
     ensures later { S.faults source.old ≤ S.faults source.new }
 {
     let mut buffer = buffer_of(alloc, cmp::min(most + 1, LARGEST_READ) as usize)?;
@@ -93,14 +95,17 @@ fn read_more<S: Source>(
     requires buffer { 0 < length buffer.old }
     requires room { 0 < room }
     ensures took { IfOk result (λ n. (part : List ℕ) × (length part ≡ n)
-        × (bytes.new.items ≡ bytes.old.items ++ part) × Took (S.left source.old) part (S.left source.new)) }
+        × (bytes.new.items ≡ bytes.old.items ++ part)
+        × Took (S.left source.old) part (S.left source.new)) }
     ensures within { IfOk result (λ n. n ≤ room) }
     ensures end { IfOk result (λ n. n ≡ 0 → IsAtEnd (S.left source.new)) }
     ensures same { IsErrOf result ReadEnd.Failed → S.left source.new ≡ S.left source.old }
-    ensures lost { IsErrOf result ReadEnd.NoMemory → TookAtMost (S.left source.old) room (S.left source.new) }
+    ensures lost { IsErrOf result ReadEnd.NoMemory
+        → TookAtMost (S.left source.old) room (S.left source.new) }
     ensures short { IsErrOf result ReadEnd.TooLong → ⊥ }
     ensures counted { S.reads source.new ≡ one_call_more (S.reads source.old) }
-    ensures failed { IsErrOf result ReadEnd.Failed → HasRisen (S.faults source.old) (S.faults source.new) }
+    ensures failed { IsErrOf result ReadEnd.Failed
+        → HasRisen (S.faults source.old) (S.faults source.new) }
     ensures later { S.faults source.old ≤ S.faults source.new }
 {
     let most = cmp::min(room, buffer.len() as u64) as usize;

@@ -22,7 +22,8 @@ pub trait Sink {
     fn write(&mut self, piece: &[u8]) -> Result<usize, Failed>
         ensures within { IfOk result (λ n. n ≤ length piece.now) }
         ensures some { IfOk result (λ n. 0 < length piece.now → 0 < n) }
-        ensures appended { IfOk result (λ n. written self.new ≡ appended (written self.old) (take n piece.now)) }
+        ensures appended { IfOk result (λ n.
+            written self.new ≡ appended (written self.old) (take n piece.now)) }
         ensures same { OnErr result (written self.new ≡ written self.old) }
         ensures counted { writes self.new ≡ one_call_more (writes self.old) }
         ensures failed { OnErr result (HasRisen (faults self.old) (faults self.new)) }

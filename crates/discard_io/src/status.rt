@@ -1,15 +1,17 @@
-ghost use Rattle.std.specs.Prelude.{◌≡◌, Some, codes};
+ghost use Rattle.std.specs.Prelude.{◌≡◌, Some};
 ghost use Rattle.discard_io.specs.Status.{code_of};
 
 use std::error::Error;
 use std::fmt;
 
-/// One call of a source or a sink failed, and moved no byte.
+/// One call of a source or a sink failed.
 #[derive(Clone, Copy, Debug, PartialEq, Eq)]
 pub struct Failed;
 
 impl fmt::Display for Failed {
-    ghost output = { λ _. Some (codes "failed") };
+    ghost use Rattle.discard_io.specs.Texts.{failed_text};
+
+    ghost output = { λ _. Some failed_text };
 
     fn fmt<W: fmt::Write>(&self, f: &mut fmt::Formatter<W>) -> fmt::Result {
         f.write_str("failed")
@@ -23,7 +25,7 @@ impl Error for Failed {}
 pub enum Status {
     /// Everything was written.
     Done,
-    /// Memory was wanting.
+    /// Out of memory.
     NoMemory,
     /// The words of the command line are not in the grammar.
     Usage,

@@ -4,6 +4,7 @@ use Rattle.std.specs.List.{range_with_len}
 use Rattle.std.proofs.lemmas.Bool.Decides.{nat_tests}
 use Rattle.std.proofs.Math.Bool.{and-true as and_true_right, and-false as and_false_right}
 use Rattle.std.proofs.lemmas.List.{get_or_past, take-append-drop, append-nil}
+use Rattle.units.specs.declared.TheConstants.{MOST_PAGES}
 use Rattle.machine.specs.declared.event.Event.TheVariants.{Grant, Lock, Unlock, Write, Try, Back}
 use Rattle.machine.specs.declared.event.Answer.TheVariants.{Granted, Held, Gone, Written, Counted, Purged, Misuse}
 use Rattle.machine.specs.History.{History, is_begun, pages_of, is_ended, is_gone, is_held, stamp_of, known_of, put}
@@ -172,7 +173,7 @@ back_answer h s kept w =
 pub grant_again : (h : History) (s client pages : ℕ) (kept : Kept) → Shows h s kept → Misuse ≡ answer_of h (Grant s client pages)
 unfolding answer_of
 grant_again h s client pages kept w =
-    sym (ap (λ b. cond (not b && nat_lt 0 client && nat_le 1 pages && nat_le pages 65536) (Granted s) Misuse) w.begun)
+    sym (ap (λ b. cond (not b && nat_lt 0 client && nat_le 1 pages && nat_le pages MOST_PAGES) (Granted s) Misuse) w.begun)
 
 -- a write of no bytes changes nothing
 pub put_none : (place : ℕ) (old : List ℕ) → put place [] old ≡ old

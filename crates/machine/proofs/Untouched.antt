@@ -10,28 +10,28 @@ use Rattle.units.specs.Range.{is_within}
 use Rattle.machine.specs.Kept.{Kept}
 use Rattle.machine.specs.Segments.{Shows, IsUnknown}
 
-begun_other : (h : History) (e : Event) (a : Answer) (s : ℕ) → (number_of e == s) ≡ false → is_begun ((e, a) ∷ h) s ≡ is_begun h s
+pub begun_other : (h : History) (e : Event) (a : Answer) (s : ℕ) → (number_of e == s) ≡ false → is_begun ((e, a) ∷ h) s ≡ is_begun h s
 unfolding is_begun
 begun_other h (Grant id client pages) (Granted drawn) s ne = ap (λ b. b || is_begun h s) ne
 begun_other h _ _ s ne = refl
 
-pages_other : (h : History) (e : Event) (a : Answer) (s : ℕ) → (number_of e == s) ≡ false → pages_of ((e, a) ∷ h) s ≡ pages_of h s
+pub pages_other : (h : History) (e : Event) (a : Answer) (s : ℕ) → (number_of e == s) ≡ false → pages_of ((e, a) ∷ h) s ≡ pages_of h s
 unfolding pages_of
 pages_other h (Grant id client pages) (Granted drawn) s ne = ap (λ b. cond b pages (pages_of h s)) ne
 pages_other h _ _ s ne = refl
 
-ended_other : (h : History) (e : Event) (a : Answer) (s : ℕ) → (number_of e == s) ≡ false → is_ended ((e, a) ∷ h) s ≡ is_ended h s
+pub ended_other : (h : History) (e : Event) (a : Answer) (s : ℕ) → (number_of e == s) ≡ false → is_ended ((e, a) ∷ h) s ≡ is_ended h s
 unfolding is_ended
 ended_other h (Back id) Counted s ne = ap (λ b. b || is_ended h s) ne
 ended_other h (Back id) Purged s ne = ap (λ b. b || is_ended h s) ne
 ended_other h _ _ s ne = refl
 
-gone_other : (h : History) (e : Event) (a : Answer) (s : ℕ) → (number_of e == s) ≡ false → is_gone ((e, a) ∷ h) s ≡ is_gone h s
+pub gone_other : (h : History) (e : Event) (a : Answer) (s : ℕ) → (number_of e == s) ≡ false → is_gone ((e, a) ∷ h) s ≡ is_gone h s
 unfolding is_gone
 gone_other h (Try id now) Taken s ne = ap (λ b. b || is_gone h s) ne
 gone_other h _ _ s ne = refl
 
-held_other : (h : History) (e : Event) (a : Answer) (s page : ℕ) → (number_of e == s) ≡ false → is_held ((e, a) ∷ h) s page ≡ is_held h s page
+pub held_other : (h : History) (e : Event) (a : Answer) (s page : ℕ) → (number_of e == s) ≡ false → is_held ((e, a) ∷ h) s page ≡ is_held h s page
 unfolding is_held
 held_other h (Grant id client pages) (Granted drawn) s page ne = ap (λ b. cond b (nat_lt page pages) (is_held h s page)) ne
 held_other h (Lock id first count) Held s page ne = ap (λ b. b && is_within first count page || is_held h s page) ne
@@ -39,17 +39,17 @@ held_other h (Unlock id first count at) (Idle stamp) s page ne = ap (λ b. not (
 held_other h (Unlock id first count at) (StillHeld stay) s page ne = ap (λ b. not (b && is_within first count page) && is_held h s page) ne
 held_other h _ _ s page ne = refl
 
-stamp_other : (h : History) (e : Event) (a : Answer) (s : ℕ) → (number_of e == s) ≡ false → stamp_of ((e, a) ∷ h) s ≡ stamp_of h s
+pub stamp_other : (h : History) (e : Event) (a : Answer) (s : ℕ) → (number_of e == s) ≡ false → stamp_of ((e, a) ∷ h) s ≡ stamp_of h s
 unfolding stamp_of
 stamp_other h (Unlock id first count at) (Idle stamp) s ne = ap (λ b. cond b (max (stamp_of h s) at) (stamp_of h s)) ne
 stamp_other h _ _ s ne = refl
 
-known_other : (h : History) (e : Event) (a : Answer) (s : ℕ) → (number_of e == s) ≡ false → known_of ((e, a) ∷ h) s ≡ known_of h s
+pub known_other : (h : History) (e : Event) (a : Answer) (s : ℕ) → (number_of e == s) ≡ false → known_of ((e, a) ∷ h) s ≡ known_of h s
 unfolding known_of
 known_other h (Try id now) (Used known) s ne = ap (λ b. cond b (Some known) (known_of h s)) ne
 known_other h _ _ s ne = refl
 
-left_other : (h : History) (e : Event) (a : Answer) (s : ℕ) → (number_of e == s) ≡ false → left_of ((e, a) ∷ h) s ≡ left_of h s
+pub left_other : (h : History) (e : Event) (a : Answer) (s : ℕ) → (number_of e == s) ≡ false → left_of ((e, a) ∷ h) s ≡ left_of h s
 unfolding left_of
 left_other h (Grant id client pages) (Granted drawn) s ne = ap (λ b. cond b (replicate (PAGE * pages) 0) (left_of h s)) ne
 left_other h (Write id place bytes) Written s ne = ap (λ b. cond b (put place bytes (left_of h s)) (left_of h s)) ne

@@ -4,6 +4,7 @@ use Rattle.std.specs.BTreeMap.{is_at}
 use Rattle.std.proofs.lemmas.Bool.{cases_eq, ne_eqb}
 use Rattle.std.proofs.lemmas.List.{get_or_past, length-replicate}
 use Rattle.std.proofs.lemmas.Bool.Decides.{nat_tests}
+use Rattle.units.specs.declared.TheConstants.{MOST_PAGES}
 use Rattle.machine.specs.declared.event.Event.{Event}
 use Rattle.machine.specs.declared.event.Event.TheVariants.{Grant, Lock, Unlock, Write, Try, Back}
 use Rattle.machine.specs.declared.event.Answer.{Answer}
@@ -78,21 +79,21 @@ unknown_misused h (Try id now) w other =
 unknown_misused h (Back id) w other = sym (ap (λ b. cond (b && (not (is_ended h id) || is_gone h id)) (cond (is_gone h id) Purged Counted) Misuse) w.begun)
 
 -- a Grant of a new number
-pub grant_misused : (h : History) (id client pages : ℕ) → (nat_lt 0 client && nat_le 1 pages && nat_le pages 65536) ≡ false → Misuse ≡ answer_of h (Grant id client pages)
+pub grant_misused : (h : History) (id client pages : ℕ) → (nat_lt 0 client && nat_le 1 pages && nat_le pages MOST_PAGES) ≡ false → Misuse ≡ answer_of h (Grant id client pages)
 unfolding answer_of
-grant_misused h id client pages e = sym (ap (λ b. cond b (Granted id) Misuse) (out (not (is_begun h id)) (nat_lt 0 client) (nat_le 1 pages) (nat_le pages 65536) e))
+grant_misused h id client pages e = sym (ap (λ b. cond b (Granted id) Misuse) (out (not (is_begun h id)) (nat_lt 0 client) (nat_le 1 pages) (nat_le pages MOST_PAGES) e))
   where
     out : (a b c d : Bool) → (b && c && d) ≡ false → (a && b && c && d) ≡ false
     out true b c d e = e
     out false b c d e = refl
 
-pub granted : (h : History) (id client pages : ℕ) → IsUnknown h id → 0 < client → 1 ≤ pages → pages ≤ 65536 → Granted id ≡ answer_of h (Grant id client pages)
+pub granted : (h : History) (id client pages : ℕ) → IsUnknown h id → 0 < client → 1 ≤ pages → pages ≤ MOST_PAGES → Granted id ≡ answer_of h (Grant id client pages)
 unfolding answer_of
 granted h id client pages w some least most =
     let a : nat_lt 0 client ≡ true = grind (arith, nat_tests) in
     let b : nat_le 1 pages ≡ true = grind (arith, nat_tests) in
-    let c : nat_le pages 65536 ≡ true = grind (arith, nat_tests) in
-    sym (ap (λ b. cond b (Granted id) Misuse) (all (is_begun h id) (nat_lt 0 client) (nat_le 1 pages) (nat_le pages 65536) w.begun a b c))
+    let c : nat_le pages MOST_PAGES ≡ true = grind (arith, nat_tests) in
+    sym (ap (λ b. cond b (Granted id) Misuse) (all (is_begun h id) (nat_lt 0 client) (nat_le 1 pages) (nat_le pages MOST_PAGES) w.begun a b c))
   where
     all : (a b c d : Bool) → a ≡ false → b ≡ true → c ≡ true → d ≡ true → (not a && b && c && d) ≡ true
     all false true true true p q r s = refl

@@ -91,6 +91,10 @@ answered events = answered_after [] events
 abbrev pub answer : List Event → Event → Answer
 answer events e = answer_of (answered events) e
 
+-- whether the segment was granted
+abbrev pub begun : List Event → ℕ → Bool
+begun events s = is_begun (answered events) s
+
 -- held pages: whether this page of the segment is one
 abbrev pub held : List Event → ℕ → ℕ → Bool
 held events s page = is_held (answered events) s page
@@ -125,9 +129,13 @@ granted_numbers [] = []
 granted_numbers ((Grant id client pages, Granted drawn) ∷ before) = id ∷ granted_numbers before
 granted_numbers (other ∷ before) = granted_numbers before
 
--- granted pages: the pages of all live segments
+-- granted pages after a history: the pages of all live segments
+abbrev pub granted_pages : History → ℕ
+granted_pages h = sum (map (pages_of h) (filter (is_live h) (granted_numbers h)))
+
+-- granted pages
 abbrev pub granted : List Event → ℕ
-granted events = let h = answered events in sum (map (pages_of h) (filter (is_live h) (granted_numbers h)))
+granted events = granted_pages (answered events)
 
 -- whether bytes can be read: each lies in a held page of a live segment
 abbrev pub readable : List Event → ℕ → ℕ → ℕ → Bool

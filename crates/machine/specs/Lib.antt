@@ -3,3 +3,5 @@ pub mod Answers
 pub mod Kept
 pub mod Segments
 pub mod Word
+pub mod Laws
+pub mod Reduction

@@ -6,7 +6,7 @@ use units::Bytes;
 /// What may happen to segments. A number names a segment; pages and bytes are counted from 0 in it.
 #[derive(Debug, Drop)]
 pub enum Event {
-    /// A client is granted a segment of so many pages under this number.
+    /// A client is granted a segment of `pages` pages under this number.
     Grant {
         id: u64,
         client: u32,
@@ -31,7 +31,7 @@ pub enum Event {
         place: u64,
         bytes: Bytes,
     },
-    /// The manager tries to purge a segment at a moment.
+    /// The manager tries to purge a segment, at a moment.
     Try {
         id: u64,
         now: u64,
@@ -47,19 +47,19 @@ pub enum Event {
 pub enum Answer {
     /// The segment of this number was granted.
     Granted { id: u64 },
-    /// The pages are locked, with the bytes left in them.
+    /// The pages are held, and show the bytes left in them.
     Held,
     /// The segment was purged: its bytes are gone.
     Gone,
-    /// No page stays locked; this is the segment's stamp now, a moment.
+    /// No page stays held; this is the segment's stamp now, a moment.
     Idle { at: u64 },
-    /// So many pages stay locked.
+    /// `pages` pages stay held.
     StillHeld { pages: u32 },
     /// The bytes are written.
     Written,
     /// The segment is purged now.
     Taken,
-    /// The segment is in use, or was used since; this is its known use now.
+    /// The segment is held, or was used since; this is its known use now, a moment.
     Used { known: u64 },
     /// The segment is counted off.
     Counted,

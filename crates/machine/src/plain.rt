@@ -37,11 +37,13 @@ impl PlainSegments {
         })
     }
 
-    /// The machine's answer to an event, after which these segments are those after one more event.
-    /// Where memory is wanting they stay as they were.
+    /// The machine's answer to an event, after which these segments are those after one more event. `NoMemory` leaves
+    /// them as they were.
     pub fn step(&mut self, alloc: Global, event: &Event) -> Result<Answer, NoMemory>
-        ensures answer { IfOk result (λ a. (events : List Event) → StandsFor self.old events → a ≡ answer events event.now) }
-        ensures after { OnOk result ((events : List Event) → StandsFor self.old events → StandsFor self.new (events ++ event.now ∷ [])) }
+        ensures answer { IfOk result (λ a. (events : List Event) → StandsFor self.old events
+            → a ≡ answer events event.now) }
+        ensures after { OnOk result ((events : List Event) → StandsFor self.old events
+            → StandsFor self.new (events ++ event.now ∷ [])) }
         ensures same { OnErr result (self.new ≡ self.old) }
     {
         match self.segments.get_mut(&event.id()) {
@@ -53,8 +55,10 @@ impl PlainSegments {
     /// The same, for an event on a number that was not granted.
     fn begin(&mut self, alloc: Global, event: &Event) -> Result<Answer, NoMemory>
         requires { kept_at self.old (number_of event.now) ≡ None }
-        ensures answer { IfOk result (λ a. (h : History) → ShowsAll h self.old → a ≡ answer_of h event.now) }
-        ensures after { OnOk result ((h : History) → ShowsAll h self.old → ShowsAll ((event.now, answer_of h event.now) ∷ h) self.new) }
+        ensures answer { IfOk result (λ a. (h : History) → ShowsAll h self.old
+            → a ≡ answer_of h event.now) }
+        ensures after { OnOk result ((h : History) → ShowsAll h self.old
+            → ShowsAll ((event.now, answer_of h event.now) ∷ h) self.new) }
         ensures same { OnErr result (self.new ≡ self.old) }
     {
         let Event::Grant { id, client, pages } = event else {
@@ -68,12 +72,14 @@ impl PlainSegments {
         Ok(Answer::Granted { id: *id })
     }
 
-    /// Reads `count` bytes at a place of a segment into `out`. It answers true and fills `out` exactly where
-    /// each of these bytes lies in a locked page of a live segment; else `out` stays as it was.
+    /// Reads `count` bytes at a place of a segment into `out`. It answers true and fills `out` exactly where each of
+    /// these bytes lies in a held page of a live segment; else `out` stays as it was.
     pub fn read(&self, id: u64, place: u64, count: u32, out: &mut [u8]) -> bool
         requires { length out.old ≡ count }
-        ensures shown { (events : List Event) → StandsFor self.now events → result ≡ readable events id place count }
-        ensures bytes { (events : List Event) → StandsFor self.now events → result ≡ true → out.new ≡ take count (drop place (left events id)) }
+        ensures shown { (events : List Event) → StandsFor self.now events
+            → result ≡ readable events id place count }
+        ensures bytes { (events : List Event) → StandsFor self.now events → result ≡ true
+            → out.new ≡ take count (drop place (left events id)) }
         ensures same { result ≡ false → out.new ≡ out.old }
     {
         match self.segments.get(&id) {

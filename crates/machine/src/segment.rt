@@ -34,7 +34,8 @@ impl Model for Segment {
 
     ghost view = { λ s. record { held = s.held.items; stamp = s.stamp; known = s.known; bytes = s.bytes.items; gone = s.gone; ended = s.ended } };
 
-    ghost invariant = { λ s. (s.held_count ≡ count_by (λ b. b) s.held.items) × (vec_len s.bytes ≡ PAGE * vec_len s.held) × (vec_len s.held ≤ MOST_PAGES) };
+    ghost invariant = { λ s. (s.held_count ≡ count_by (λ b. b) s.held.items)
+        × (vec_len s.bytes ≡ PAGE * vec_len s.held) × (vec_len s.held ≤ MOST_PAGES) };
 }
 
 impl Segment {
@@ -57,8 +58,10 @@ impl Segment {
 
     /// The machine's answer to an event on this segment, after which the segment is what the event makes of it.
     pub(crate) fn step(&mut self, event: &Event) -> Answer
-        ensures answer { (h : History) (s : ℕ) → Shows h s self.old → number_of event.now ≡ s → result ≡ answer_of h event.now }
-        ensures after { (h : History) (s : ℕ) → Shows h s self.old → number_of event.now ≡ s → Shows ((event.now, result) ∷ h) s self.new }
+        ensures answer { (h : History) (s : ℕ) → Shows h s self.old → number_of event.now ≡ s
+            → result ≡ answer_of h event.now }
+        ensures after { (h : History) (s : ℕ) → Shows h s self.old → number_of event.now ≡ s
+            → Shows ((event.now, result) ∷ h) s self.new }
     {
         match event {
             Event::Grant { .. } => Answer::Misuse,
@@ -83,9 +86,11 @@ impl Segment {
     }
 
     fn can_lock(&self, first: u32, count: u32) -> bool
-        ensures told { (h : History) (s : ℕ) → Shows h s self.now → result ≡ can_lock h s first count }
+        ensures told { (h : History) (s : ℕ) → Shows h s self.now
+            → result ≡ can_lock h s first count }
         ensures inside { result ≡ true → first + count ≤ length self.now.held }
-        ensures free { result ≡ true → (page : ℕ) → first ≤ page → page < first + count → slice_index_or self.now.held page false ≡ false }
+        ensures free { result ≡ true → (page : ℕ) → first ≤ page → page < first + count
+            → slice_index_or self.now.held page false ≡ false }
     {
         let end = u64::from(first) + u64::from(count);
         if self.ended || count == 0 || end > self.held.len() as u64 {
@@ -95,9 +100,11 @@ impl Segment {
     }
 
     fn can_unlock(&self, first: u32, count: u32, at: u64) -> bool
-        ensures told { (h : History) (s : ℕ) → Shows h s self.now → result ≡ can_unlock h s first count at }
+        ensures told { (h : History) (s : ℕ) → Shows h s self.now
+            → result ≡ can_unlock h s first count at }
         ensures inside { result ≡ true → first + count ≤ length self.now.held }
-        ensures held { result ≡ true → (page : ℕ) → first ≤ page → page < first + count → slice_index_or self.now.held page false ≡ true }
+        ensures held { result ≡ true → (page : ℕ) → first ≤ page → page < first + count
+            → slice_index_or self.now.held page false ≡ true }
     {
         let end = u64::from(first) + u64::from(count);
         if self.ended || count == 0 || !is_moment(at) {
@@ -110,8 +117,10 @@ impl Segment {
     }
 
     fn lock(&mut self, first: u32, count: u32) -> Answer
-        ensures answer { (h : History) (s : ℕ) → Shows h s self.old → result ≡ answer_of h (Event.Lock s first count) }
-        ensures after { (h : History) (s : ℕ) → Shows h s self.old → Shows ((Event.Lock s first count, result) ∷ h) s self.new }
+        ensures answer { (h : History) (s : ℕ) → Shows h s self.old
+            → result ≡ answer_of h (Event.Lock s first count) }
+        ensures after { (h : History) (s : ℕ) → Shows h s self.old
+            → Shows ((Event.Lock s first count, result) ∷ h) s self.new }
     {
         if !self.can_lock(first, count) {
             return Answer::Misuse;
@@ -125,8 +134,10 @@ impl Segment {
     }
 
     fn unlock(&mut self, first: u32, count: u32, at: u64) -> Answer
-        ensures answer { (h : History) (s : ℕ) → Shows h s self.old → result ≡ answer_of h (Event.Unlock s first count at) }
-        ensures after { (h : History) (s : ℕ) → Shows h s self.old → Shows ((Event.Unlock s first count at, result) ∷ h) s self.new }
+        ensures answer { (h : History) (s : ℕ) → Shows h s self.old
+            → result ≡ answer_of h (Event.Unlock s first count at) }
+        ensures after { (h : History) (s : ℕ) → Shows h s self.old
+            → Shows ((Event.Unlock s first count at, result) ∷ h) s self.new }
     {
         if !self.can_unlock(first, count, at) {
             return Answer::Misuse;
@@ -144,7 +155,8 @@ impl Segment {
 
     /// Whether each byte of a range lies in a held page.
     fn holds(&self, place: u64, count: u64) -> bool
-        ensures told { (h : History) (s : ℕ) → Shows h s self.now → result ≡ bytes_held h s place count }
+        ensures told { (h : History) (s : ℕ) → Shows h s self.now
+            → result ≡ bytes_held h s place count }
         ensures inside { result ≡ true → 0 < count → place + count ≤ length self.now.bytes }
     {
         let pages = self.held.len() as u64;
@@ -163,8 +175,10 @@ impl Segment {
     }
 
     fn write(&mut self, place: u64, bytes: &[u8]) -> Answer
-        ensures answer { (h : History) (s : ℕ) → Shows h s self.old → result ≡ answer_of h (Event.Write s place bytes.now) }
-        ensures after { (h : History) (s : ℕ) → Shows h s self.old → Shows ((Event.Write s place bytes.now, result) ∷ h) s self.new }
+        ensures answer { (h : History) (s : ℕ) → Shows h s self.old
+            → result ≡ answer_of h (Event.Write s place bytes.now) }
+        ensures after { (h : History) (s : ℕ) → Shows h s self.old
+            → Shows ((Event.Write s place bytes.now, result) ∷ h) s self.new }
     {
         if self.ended {
             return Answer::Misuse;
@@ -185,8 +199,10 @@ impl Segment {
     }
 
     fn try_purge(&mut self, now: u64) -> Answer
-        ensures answer { (h : History) (s : ℕ) → Shows h s self.old → result ≡ answer_of h (Event.Try s now) }
-        ensures after { (h : History) (s : ℕ) → Shows h s self.old → Shows ((Event.Try s now, result) ∷ h) s self.new }
+        ensures answer { (h : History) (s : ℕ) → Shows h s self.old
+            → result ≡ answer_of h (Event.Try s now) }
+        ensures after { (h : History) (s : ℕ) → Shows h s self.old
+            → Shows ((Event.Try s now, result) ∷ h) s self.new }
     {
         if !self.can_try(now) {
             return Answer::Misuse;
@@ -204,8 +220,10 @@ impl Segment {
     }
 
     fn give_back(&mut self) -> Answer
-        ensures answer { (h : History) (s : ℕ) → Shows h s self.old → result ≡ answer_of h (Event.Back s) }
-        ensures after { (h : History) (s : ℕ) → Shows h s self.old → Shows ((Event.Back s, result) ∷ h) s self.new }
+        ensures answer { (h : History) (s : ℕ) → Shows h s self.old
+            → result ≡ answer_of h (Event.Back s) }
+        ensures after { (h : History) (s : ℕ) → Shows h s self.old
+            → Shows ((Event.Back s, result) ∷ h) s self.new }
     {
         if self.gone {
             self.ended = true;
@@ -220,8 +238,10 @@ impl Segment {
 
     /// Reads bytes at a place into `out`, where each lies in a held page and the segment is live.
     pub(crate) fn read(&self, place: u64, out: &mut [u8]) -> bool
-        ensures shown { (h : History) (s : ℕ) → Shows h s self.now → result ≡ (is_live h s && bytes_held h s place (length out.old)) }
-        ensures bytes { result ≡ true → out.new ≡ take (length out.old) (drop place self.now.bytes) }
+        ensures shown { (h : History) (s : ℕ) → Shows h s self.now
+            → result ≡ (is_live h s && bytes_held h s place (length out.old)) }
+        ensures bytes { result ≡ true
+            → out.new ≡ take (length out.old) (drop place self.now.bytes) }
         ensures same { result ≡ false → out.new ≡ out.old }
     {
         let count = out.len();

@@ -1,11 +1,11 @@
-ghost use Rattle.std.specs.Prelude.{◌≡◌, ℕ, ◌+◌, Bool, true, false, ◌↔◌, if◌then◌else◌, IfOk, IsTrue, replicate};
-ghost use Rattle.units.specs.Range.{is_within};
-ghost use Rattle.page_locks.specs.Locks.{is_page_locked, page_count, locked_count, AreFree, AreLocked, IsRange};
+ghost use Rattle.std.specs.Prelude.{◌≡◌, ◌↔◌, IfOk, IsTrue};
+ghost use Rattle.page_locks.specs.Locks.{locked_count, IsAllLocked, AreFree, AreLocked, IsRange};
+ghost use Rattle.page_locks.specs.Locks.{LocksRange, UnlocksRange};
 
-use units::NoMemory;
-use units::pages::{all_are, set_all};
 use std::alloc::Global;
 use std::marker::Model;
+use units::NoMemory;
+use units::pages::{all_are, set_all};
 
 /// Which pages of a segment are locked. Pages are counted from 0.
 #[derive(Debug, Drop)]
@@ -28,9 +28,9 @@ impl Model for PageLocks {
 }
 
 impl PageLocks {
-    /// The locks of a segment of so many pages, each of which is locked.
+    /// The locks of a segment of `pages` pages, each of which is locked.
     pub fn all_locked(alloc: Global, pages: u32) -> Result<PageLocks, NoMemory>
-        ensures { IfOk result (λ locks. locks ≡ replicate pages true) }
+        ensures { IfOk result (λ locks. IsAllLocked locks pages) }
     {
         Ok(PageLocks {
             locked: vec![in alloc; true; pages as usize]?,
@@ -41,9 +41,7 @@ impl PageLocks {
     /// Locks a range of pages, each of which is free (`is_free`).
     pub fn lock(&mut self, first: u32, count: u32)
         requires { AreFree self.old first count }
-        ensures locked { (page : ℕ) → is_page_locked self.new page ≡ (if is_within first count page then true else is_page_locked self.old page) }
-        ensures pages { page_count self.new ≡ page_count self.old }
-        ensures counted { locked_count self.new ≡ locked_count self.old + count }
+        ensures { LocksRange self.old self.new first count }
     {
         set_all(&mut self.locked, first as usize, count as usize, true);
         self.count += count;
@@ -52,22 +50,20 @@ impl PageLocks {
     /// Unlocks a range of pages, each of which is locked (`is_locked`).
     pub fn unlock(&mut self, first: u32, count: u32)
         requires { AreLocked self.old first count }
-        ensures free { (page : ℕ) → is_page_locked self.new page ≡ (if is_within first count page then false else is_page_locked self.old page) }
-        ensures pages { page_count self.new ≡ page_count self.old }
-        ensures counted { locked_count self.new + count ≡ locked_count self.old }
+        ensures { UnlocksRange self.old self.new first count }
     {
         set_all(&mut self.locked, first as usize, count as usize, false);
         self.count -= count;
     }
 
-    /// Whether there is a page in the range, the range lies in the segment, and each of its pages is free.
+    /// Whether there is a page in the range, it lies in the segment, and each of its pages is free.
     pub fn is_free(&self, first: u32, count: u32) -> bool
         ensures { IsTrue result ↔ AreFree self.now first count }
     {
         self.is_range(first, count, false)
     }
 
-    /// Whether there is a page in the range, the range lies in the segment, and each of its pages is locked.
+    /// Whether there is a page in the range, it lies in the segment, and each of its pages is locked.
     pub fn is_locked(&self, first: u32, count: u32) -> bool
         ensures { IsTrue result ↔ AreLocked self.now first count }
     {
@@ -81,6 +77,7 @@ impl PageLocks {
         self.count
     }
 
+    /// Whether the range has a page, lies in the segment, and each of its pages is as `locked` says.
     fn is_range(&self, first: u32, count: u32, locked: bool) -> bool
         ensures { IsTrue result ↔ IsRange locked self.now first count }
     {

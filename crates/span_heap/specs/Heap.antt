@@ -2,8 +2,8 @@
 use Rattle.std.specs.Prelude.{◌≡◌, ℕ, ◌+◌, ◌^◌, ◌<◌, ◌≤◌, Bool, ◌&&◌, ◌==◌, nat_lt, if◌then◌else◌, List, All, Any, count_by, sum_by, filter}
 use Rattle.std.specs.List.{list_any}
 use Rattle.span_heap.specs.declared.run.Run.{Run}
-use Rattle.span_heap.specs.declared.segment.Segment.{Segment}
-use Rattle.span_heap.specs.Run.{has_page, begins_at, ends_at, lies_in, pages_of}
+use Rattle.span_heap.specs.Segment.{Segment, pages_in}
+use Rattle.span_heap.specs.Run.{has_page, begins_at, ends_at, pages_of}
 
 -- the segments of a heap, its used spans in some order, and its free runs, oldest first
 pub record Contents : Type 0 where
@@ -30,10 +30,6 @@ has_segment segments id = list_any (has_id id) segments
 -- all pages of the segments
 abbrev pub size_of : List Segment → ℕ
 size_of segments = sum_by (λ segment. segment.pages) segments
-
--- how many pages of one segment these runs have
-abbrev pub pages_in : ℕ → List Run → ℕ
-pages_in id runs = pages_of (filter (lies_in id) runs)
 
 -- the run has a page, and lies within one of the segments
 abbrev pub LiesWithin : List Segment → Run → Type 0

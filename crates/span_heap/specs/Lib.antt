@@ -1,4 +1,6 @@
 pub mod Run
 pub mod Runs
 pub mod Pick
+pub mod Segment
 pub mod Heap
+pub mod Changes

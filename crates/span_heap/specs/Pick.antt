@@ -1,5 +1,5 @@
 -- Which free run a search takes.
-use Rattle.std.specs.Prelude.{ℕ, ◌+◌, min, Bool, not, ◌&&◌, ◌==◌, nat_le, nat_lt, List, [], ◌∷◌, Option, reverse, filter, find, if◌then◌else◌}
+use Rattle.std.specs.Prelude.{◌≡◌, ℕ, ◌+◌, ◌<◌, min, Bool, not, ◌&&◌, ◌==◌, nat_le, nat_lt, List, [], ◌∷◌, length, slice_get, Option, None, MatchOption, reverse, filter, find, if◌then◌else◌}
 use Rattle.span_heap.specs.declared.run.Run.{Run}
 
 -- the run has at least n and at most n + slack pages
@@ -30,3 +30,8 @@ pick runs n slack =
     if nat_lt length 256
     then latest (λ run. fits n slack run && (run.pages == length)) runs
     else latest (λ run. fits n slack run && is_long run) runs
+
+-- the place of the run that is picked, or none where none is picked
+abbrev pub IsPlaceOfPick : List Run → ℕ → ℕ → Option ℕ → Type 0
+IsPlaceOfPick runs n slack found =
+    MatchOption found (pick runs n slack ≡ None) (λ place. (place < length runs) × (slice_get runs place ≡ pick runs n slack))

@@ -1,8 +1,8 @@
 //! The free runs as one list, the oldest first.
-ghost use Rattle.std.specs.Prelude.{◌≡◌, ◌+◌, ◌-◌, ◌^◌, ◌<◌, ◌≤◌, length, slice_get, vec_len, vec_capacity, MatchOption, ◌++◌, not, All, remove, filter};
+ghost use Rattle.std.specs.Prelude.{◌≡◌, ◌+◌, ◌-◌, ◌^◌, ◌<◌, ◌≤◌, length, slice_get, vec_len, vec_capacity, ◌++◌, not, All, remove, filter};
 ghost use Rattle.span_heap.specs.Run.{is_beside, pages_of};
 ghost use Rattle.span_heap.specs.Runs.{freed, pages_before, pages_behind, rest_of};
-ghost use Rattle.span_heap.specs.Pick.{pick};
+ghost use Rattle.span_heap.specs.Pick.{IsPlaceOfPick};
 
 use crate::run::Run;
 
@@ -13,7 +13,7 @@ const LONG: u32 = 256;
 /// length that fits, where all long runs count as of one length.
 pub(crate) fn pick(runs: &[Run], pages: u32, most: u32) -> Option<usize>
     requires { pages ≤ most }
-    ensures { MatchOption result (pick runs.now pages (most - pages) ≡ None) (λ place. (place < length runs.now) × (slice_get runs.now place ≡ pick runs.now pages (most - pages))) }
+    ensures { IsPlaceOfPick runs.now pages (most - pages) result }
 {
     let mut least = LONG;
     let mut best = None;
@@ -43,7 +43,7 @@ pub(crate) fn carve(runs: &mut Vec<Run>, place: usize, pages: u32) -> Run
 }
 
 /// Appends the span, joined with the runs directly before it and behind it.
-#[tactic(auto, using(crate::proofs::Joins::beside_fit))]
+#[tactic(auto, using(crate::proofs::FreeingKeepsThePartition::beside_fit))]
 pub(crate) fn join(runs: &mut Vec<Run>, span: Run)
     requires room { vec_len runs.old < vec_capacity runs.old }
     requires sized { 1 ≤ span.pages }

@@ -1,49 +1,57 @@
-ghost use Rattle.std.specs.Prelude.{◌≡◌, ◌+◌, ◌-◌, ◌^◌, ◌<◌, ◌≤◌, ◌↔◌, ◌≢◌, not, [], ◌∷◌, ◌++◌, All, Contains, IsPermutation, IsTrue, IsFalse, IfOk, IfSome, IfNone, IsNone, OnOk, OnErr, filter};
-ghost use Rattle.std.specs.Option.{option_map};
+ghost use Rattle.std.specs.Prelude.{◌≡◌, ◌+◌, ◌^◌, ◌<◌, ◌≤◌, ◌↔◌, [], Contains, IsTrue, IsFalse, IfOk, IfSome, IfNone, IsNone, OnErr};
+ghost use Rattle.units.specs.declared.TheConstants.{MOST_PAGES};
 ghost use Rattle.span_heap.specs.Run.{pages_of};
-ghost use Rattle.span_heap.specs.Runs.{front_of, back_of, carved, freed, dropped};
-ghost use Rattle.span_heap.specs.Pick.{fits, pick};
-ghost use Rattle.span_heap.specs.Heap.{contents, IsPartition, has_id, has_segment, size_of, pages_in};
+ghost use Rattle.span_heap.specs.Runs.{front_of, back_of};
+ghost use Rattle.span_heap.specs.Segment.{pages_in};
+ghost use Rattle.span_heap.specs.Heap.{contents, IsPartition, has_segment, size_of};
+ghost use Rattle.span_heap.specs.Changes.{Grows, found_span, IsCarved, Uses, NoneFits, Splits, Frees, Drops, NoneIn};
 
 use crate::free_runs::{carve, join, pick};
 use crate::run::{Run, Runs};
 use crate::run_list::{make_room, pages_in, remove_runs};
-use crate::segment::{Segment, remove_segment};
+use crate::segment::{SegmentEntry, add_used, is_there, remove_segment, take_used, used_pages};
 use crate::span::Span;
 use crate::used_spans::take_out;
-use units::NoMemory;
 use std::alloc::Global;
 use std::marker::Model;
+use units::NoMemory;
 
 /// Segments of pages, cut into used spans and free runs.
 ///
 /// Each page of each segment lies in exactly one used span or free run, and no two free runs touch.
 /// Only `new`, `grow` and `runs` take memory, since a segment comes with room for one span and one
-/// run per page. `free_pages` reads a count; each other call goes along the lists of segments, used
-/// spans or free runs.
+/// run per page. `free_pages` reads a count, `has_segment` and `all_free` go along the segments, and
+/// each other call along the segments, used spans or free runs.
 #[derive(Debug, Drop)]
 pub struct Heap {
-    segments: Vec<Segment>,
+    /// In the order in which they came.
+    segments: Vec<SegmentEntry>,
+    /// In no order.
     used: Vec<Run>,
+    /// The oldest first.
     free: Vec<Run>,
     pages: u32,
     free_pages: u32,
 }
 
 impl Model for Heap {
-    ghost use Rattle.std.specs.Prelude.{◌≤◌, vec_capacity};
+    ghost use Rattle.std.specs.Prelude.{◌≤◌, map, vec_capacity};
+    ghost use Rattle.span_heap.specs.Segment.{shown, AreCounted};
     ghost use Rattle.span_heap.specs.Heap.{Contents, contents, IsKept};
 
     ghost Value = { Contents };
 
-    ghost view = { λ h. contents h.segments.items h.used.items h.free.items };
+    ghost view = { λ h. contents (map shown h.segments.items) h.used.items h.free.items };
 
-    ghost invariant = { λ h. IsKept (contents h.segments.items h.used.items h.free.items) h.pages h.free_pages
-        × (h.pages ≤ vec_capacity h.used) × (h.pages ≤ vec_capacity h.free) };
+    // Each count of pages is that of the lists, and both lists have room for one run per page.
+    ghost invariant = { λ h.
+        IsKept (contents (map shown h.segments.items) h.used.items h.free.items) h.pages h.free_pages
+        × (h.pages ≤ vec_capacity h.used) × (h.pages ≤ vec_capacity h.free)
+        × AreCounted h.segments.items h.used.items };
 }
 
 impl Heap {
-    /// A heap with no segment. The one error is want of memory.
+    /// A heap with no segment. The one error is being out of memory.
     pub fn new(alloc: Global) -> Result<Heap, NoMemory>
         ensures { IfOk result (λ heap. heap ≡ contents [] [] []) }
     {
@@ -62,16 +70,10 @@ impl Heap {
     /// of the heap together stay below 2^32.
     pub fn grow(&mut self, _alloc: Global, segment: u64, pages: u32) -> Result<Span, NoMemory>
         requires fresh { IsFalse (has_segment self.old.segments segment) }
-        requires sized { (1 ≤ pages) × (pages ≤ 65536) }
+        requires sized { (1 ≤ pages) × (pages ≤ MOST_PAGES) }
         requires small { size_of self.old.segments + pages < 2 ^ 32 }
-
-        ensures span { IfOk result (λ span. span ≡ record { segment = segment; first = 0; pages = pages }) }
-        ensures segments { OnOk result (self.new.segments ≡ self.old.segments ++ record { id = segment; pages = pages } ∷ []) }
-        ensures used { IfOk result (λ span. IsPermutation (span ∷ self.old.used) self.new.used) }
-        ensures has { IfOk result (Contains self.new.used) }
-        ensures free { self.new.free ≡ self.old.free }
-        ensures none_free { All (λ run. run.segment ≢ segment) self.new.free }
-        ensures err { OnErr result (self.new ≡ self.old) }
+        ensures grown { IfOk result (Grows self.old self.new segment pages) }
+        ensures same { OnErr result (self.new ≡ self.old) }
         ensures partition { IsPartition self.new }
     {
         let total = self.pages + pages;
@@ -83,7 +85,11 @@ impl Heap {
             first: 0,
             pages,
         };
-        self.segments.push_reserved(Segment { id: segment, pages });
+        self.segments.push_reserved(SegmentEntry {
+            id: segment,
+            pages,
+            used: pages,
+        });
         self.used.push_reserved(run);
         self.pages = total;
         Ok(Span { run })
@@ -98,18 +104,17 @@ impl Heap {
     pub fn search(&mut self, pages: u32, slack: u32) -> Option<Span>
         requires sized { 1 ≤ pages }
         requires small { pages + slack < 2 ^ 32 }
-        ensures span { result ≡ option_map (λ run. front_of run pages) (pick self.old.free pages slack) }
-        ensures free { IfSome (pick self.old.free pages slack) (λ run. self.new.free ≡ carved self.old.free run pages) }
-        ensures used { IfSome result (λ span. IsPermutation (span ∷ self.old.used) self.new.used) }
-        ensures has { IfSome result (Contains self.new.used) }
-        ensures segments { self.new.segments ≡ self.old.segments }
-        ensures none { IfNone result (self.new ≡ self.old) }
-        ensures none_fits { IsNone result ↔ All (λ run. IsFalse (fits pages slack run)) self.old.free }
+        ensures span { result ≡ found_span self.old.free pages slack }
+        ensures free { IsCarved self.old.free self.new.free pages slack }
+        ensures used { IfSome result (Uses self.old self.new) }
+        ensures same { IfNone result (self.new ≡ self.old) }
+        ensures none_fits { IsNone result ↔ NoneFits self.old.free pages slack }
         ensures partition { IsPartition self.new }
     {
         let place = pick(self.free.as_slice(), pages, pages + slack)?;
         let run = carve(&mut self.free, place, pages).front(pages);
         self.used.push_reserved(run);
+        add_used(&mut self.segments, run.segment, pages);
         self.free_pages -= pages;
         Some(Span { run })
     }
@@ -121,10 +126,7 @@ impl Heap {
         requires used { Contains self.old.used span }
         requires within { (1 ≤ front) × (front < span.pages) }
         ensures spans { result ≡ (front_of span front, back_of span front) }
-        ensures used { IsPermutation (result.0 ∷ result.1 ∷ self.old.used) (span ∷ self.new.used) }
-        ensures has { Contains self.new.used result.0 × Contains self.new.used result.1 }
-        ensures free { self.new.free ≡ self.old.free }
-        ensures segments { self.new.segments ≡ self.old.segments }
+        ensures split { Splits self.old self.new span result.0 result.1 }
         ensures partition { IsPartition self.new }
     {
         let whole = span.run;
@@ -141,15 +143,13 @@ impl Heap {
     /// Condition: the heap has the span.
     pub fn free(&mut self, span: Span)
         requires { Contains self.old.used span }
-        ensures free { self.new.free ≡ freed self.old.free span }
-        ensures alone { All (λ run. run.segment ≢ span.segment) self.old.free → self.new.free ≡ self.old.free ++ span ∷ [] }
-        ensures used { IsPermutation self.old.used (span ∷ self.new.used) }
-        ensures segments { self.new.segments ≡ self.old.segments }
+        ensures freed { Frees self.old self.new span }
         ensures partition { IsPartition self.new }
     {
         let run = span.run;
         take_out(&mut self.used, run);
         join(&mut self.free, run);
+        take_used(&mut self.segments, run.segment, run.pages);
         self.free_pages += run.pages;
     }
 
@@ -160,12 +160,10 @@ impl Heap {
     pub fn drop_segment(&mut self, segment: u64) -> u32
         requires { IsTrue (has_segment self.old.segments segment) }
         ensures answer { result ≡ pages_in segment self.old.used }
-        ensures segments { self.new.segments ≡ filter (λ other. not (has_id segment other)) self.old.segments }
-        ensures used { IsPermutation (dropped self.old.used segment) self.new.used }
-        ensures free { self.new.free ≡ dropped self.old.free segment }
+        ensures dropped { Drops self.old self.new segment }
         ensures partition { IsPartition self.new }
     {
-        let used = pages_in(self.used.as_slice(), segment);
+        let used = used_pages(self.segments.as_slice(), segment);
         let free = pages_in(self.free.as_slice(), segment);
         remove_segment(&mut self.segments, segment);
         remove_runs(&mut self.used, segment);
@@ -188,7 +186,7 @@ impl Heap {
     pub fn has_segment(&self, segment: u64) -> bool
         ensures { result ≡ has_segment self.now.segments segment }
     {
-        self.segments.iter().any(|other| other.id == segment)
+        is_there(self.segments.as_slice(), segment)
     }
 
     /// Whether no used span lies in this segment.
@@ -196,9 +194,9 @@ impl Heap {
     /// Condition: a segment of the heap has this number.
     pub fn all_free(&self, segment: u64) -> bool
         requires { IsTrue (has_segment self.now.segments segment) }
-        ensures { IsTrue result ↔ All (λ run. run.segment ≢ segment) self.now.used }
+        ensures { IsTrue result ↔ NoneIn segment self.now.used }
     {
-        self.used.iter().all(|run| run.segment != segment)
+        used_pages(self.segments.as_slice(), segment) == 0
     }
 
     /// The pages of all free runs.
@@ -208,7 +206,7 @@ impl Heap {
         u64::from(self.free_pages)
     }
 
-    /// The free runs as they are now, the oldest first. The one error is want of memory.
+    /// The free runs as they are now, the oldest first. The one error is being out of memory.
     pub fn runs(&self, alloc: Global) -> Result<Runs, NoMemory>
         ensures { IfOk result (λ runs. runs ≡ self.now.free) }
     {

@@ -2,7 +2,7 @@
 ghost use Rattle.std.specs.Prelude.{◌≡◌, ◌^◌, ◌<◌, ◌≤◌, OnOk, vec_len, vec_capacity};
 ghost use Rattle.span_heap.specs.Run.{pages_of};
 ghost use Rattle.span_heap.specs.Runs.{dropped};
-ghost use Rattle.span_heap.specs.Heap.{pages_in};
+ghost use Rattle.span_heap.specs.Segment.{pages_in};
 
 use crate::run::Run;
 use std::alloc::AllocError;

@@ -4,18 +4,8 @@ use super::*;
 use std::alloc::Global;
 use std::test::Fail;
 
-/// A run as (segment, first, pages).
-type Place = (u64, u32, u32);
-
-/// The free runs of a heap, the oldest first.
-fn free_runs(alloc: Global, heap: &Heap) -> Result<Vec<Place>, Fail> {
-    let runs = heap.runs(alloc)?;
-    let mut list = Vec::new(alloc);
-    for place in 0..runs.len() {
-        let run = runs.get(place).ok_or("a run is missing")?;
-        list.push((run.segment, run.first, run.pages))?;
-    }
-    Ok(list)
+fn crosses_threads<T: Send + Sync>(value: T) -> T {
+    value
 }
 
 /// Frees a span that the heap has.
@@ -27,6 +17,13 @@ fn give_back(heap: &mut Heap, span: Span) -> Result<(), Fail>
     }
     heap.free(span);
     Ok(())
+}
+
+fn stands_at(runs: &Runs, place: u64, segment: u64, first: u32, pages: u32) -> bool {
+    match runs.get(place) {
+        Some(run) => run.segment == segment && run.first == first && run.pages == pages,
+        None => false,
+    }
 }
 
 /// Segments 7, 8, 9 and 10 of 1, 3, 3 and 300 pages, freed whole in this order.
@@ -43,57 +40,42 @@ fn four_free_segments(alloc: Global) -> Result<Heap, Fail> {
     Ok(heap)
 }
 
-/// What a search of that heap answers, and the free run that it appends.
-fn searched(alloc: Global, pages: u32, slack: u32) -> Result<(Option<Place>, Option<Place>), Fail>
+/// Whether a search of that heap takes the front of this segment and appends the rest.
+fn takes(alloc: Global, pages: u32, slack: u32, segment: u64, rest: u32) -> Result<bool, Fail>
     requires sized { 1 ≤ pages }
     requires small { pages + slack < 2 ^ 32 }
 {
     let mut heap = four_free_segments(alloc)?;
-    let answer = heap
-        .search(pages, slack)
-        .map(|span| (span.segment(), span.first(), span.pages()));
-    let latest = free_runs(alloc, &heap)?.pop();
-    Ok((answer, latest.filter(|run| *run != (10, 0, 300))))
+    let found = match heap.search(pages, slack) {
+        Some(span) => { span.segment() == segment && span.first() == 0 && span.pages() == pages }
+        None => false,
+    };
+    let runs = heap.runs(alloc)?;
+    Ok(found && stands_at(&runs, 3, segment, pages, rest))
+}
+
+fn finds_none(alloc: Global, pages: u32, slack: u32) -> Result<bool, Fail>
+    requires sized { 1 ≤ pages }
+    requires small { pages + slack < 2 ^ 32 }
+{
+    let mut heap = four_free_segments(alloc)?;
+    Ok(heap.search(pages, slack).is_none())
 }
 
 #[test]
 fn a_search_takes_the_latest_of_the_least_length(rt: HostRuntime) -> Result<(), Fail> {
     let alloc = rt.alloc();
-    assert_eq!(rt; searched(alloc, 2, 0)?, (None, None));
-    assert_eq!(rt; searched(alloc, 2, 1)?, (Some((9, 0, 2)), Some((9, 2, 1))));
-    assert_eq!(rt;
-        searched(alloc, 2, 298)?,
-        (Some((9, 0, 2)), Some((9, 2, 1)))
-    );
-    assert_eq!(rt; searched(alloc, 4, 295)?, (None, None));
-    assert_eq!(rt;
-        searched(alloc, 4, 296)?,
-        (Some((10, 0, 4)), Some((10, 4, 296)))
-    );
+    assert!(rt; finds_none(alloc, 2, 0)?);
+    assert!(rt; takes(alloc, 2, 1, 9, 1)?);
+    assert!(rt; takes(alloc, 2, 298, 9, 1)?);
+    assert!(rt; finds_none(alloc, 4, 295)?);
+    assert!(rt; takes(alloc, 4, 296, 10, 296)?);
     Ok(())
 }
 
-/// Cuts a span of six pages in three of two.
-fn in_three(heap: &mut Heap, span: Span, parts: &mut Vec<Span>) -> Result<(), Fail>
-    ensures { heap.new.segments ≡ heap.old.segments }
-{
-    if !heap.has(&span) || span.pages() != 6 {
-        return Err(Fail::new("the heap has no such span"));
-    }
-    let (front, rest) = heap.split(span, 2);
-    if !heap.has(&rest) {
-        return Err(Fail::new("the heap has no such span"));
-    }
-    let (middle, back) = heap.split(rest, 2);
-    parts.push(front)?;
-    parts.push(middle)?;
-    parts.push(back)?;
-    Ok(())
-}
-
-#[test]
-fn a_freed_span_is_joined_and_comes_last(rt: HostRuntime) -> Result<(), Fail> {
-    let alloc = rt.alloc();
+/// A segment of 9 pages in three spans and one of 3 pages, freed so that the last span joins both
+/// of its neighbours.
+fn joined(alloc: Global) -> Result<Heap, Fail> {
     let mut heap = Heap::new(alloc)?;
     let whole = heap.grow(alloc, 1, 9)?;
     let (first, rest) = heap.split(whole, 3);
@@ -103,85 +85,14 @@ fn a_freed_span_is_joined_and_comes_last(rt: HostRuntime) -> Result<(), Fail> {
     give_back(&mut heap, third)?;
     give_back(&mut heap, other)?;
     give_back(&mut heap, second)?;
-    assert_eq!(rt;
-        free_runs(alloc, &heap)?.as_slice(),
-        [(2, 0, 3), (1, 0, 9)].as_slice()
-    );
-    assert_eq!(rt; heap.free_pages(), 12);
-
-    let mut heap = Heap::new(alloc)?;
-    let mut parts = Vec::new(alloc);
-    let whole = heap.grow(alloc, 1, 6)?;
-    in_three(&mut heap, whole, &mut parts)?;
-    let whole = heap.grow(alloc, 2, 6)?;
-    in_three(&mut heap, whole, &mut parts)?;
-    let whole = heap.grow(alloc, 3, 6)?;
-    in_three(&mut heap, whole, &mut parts)?;
-    let order = [
-        (1, 2),
-        (2, 0),
-        (3, 4),
-        (1, 4),
-        (2, 4),
-        (3, 0),
-        (2, 2),
-        (1, 0),
-        (3, 2),
-    ];
-    let lengths = [1, 2, 3, 3, 4, 5, 4, 4, 3];
-    for ((segment, first), length) in order.iter().zip(lengths.iter()) {
-        let place = parts
-            .iter()
-            .position(|part| part.segment() == *segment && part.first() == *first)
-            .ok_or("no such part")?;
-        let part = parts.remove(place);
-        give_back(&mut heap, part)?;
-        assert_eq!(rt;
-            free_runs(alloc, &heap)?.len(),
-            *length,
-            "{segment} {first}"
-        );
-    }
-    assert_eq!(rt;
-        free_runs(alloc, &heap)?.as_slice(),
-        [(2, 0, 6), (1, 0, 6), (3, 0, 6)].as_slice()
-    );
-    Ok(())
+    Ok(heap)
 }
 
 #[test]
-fn long_runs_are_of_one_length_and_a_segment_is_dropped_whole(rt: HostRuntime) -> Result<(), Fail> {
-    let alloc = rt.alloc();
-    let mut heap = Heap::new(alloc)?;
-    let span = heap.grow(alloc, 1, 256)?;
-    give_back(&mut heap, span)?;
-    let span = heap.grow(alloc, 2, 257)?;
-    give_back(&mut heap, span)?;
-    let span = heap.grow(alloc, 3, 255)?;
-    give_back(&mut heap, span)?;
-    let long = heap.search(256, 1).ok_or("none fits")?;
-    let exact = heap.search(255, 1).ok_or("none fits")?;
-    let last = heap.search(1, 300).ok_or("none fits")?;
-    assert_eq!(rt; (long.segment(), long.first(), long.pages()), (2, 0, 256));
-    assert_eq!(rt;
-        (exact.segment(), exact.first(), exact.pages()),
-        (3, 0, 255)
-    );
-    assert_eq!(rt; (last.segment(), last.first(), last.pages()), (2, 256, 1));
-    assert_eq!(rt;
-        free_runs(alloc, &heap)?.as_slice(),
-        [(1, 0, 256)].as_slice()
-    );
-    assert_eq!(rt; heap.search(257, 0).is_none(), true);
-    assert_eq!(rt; heap.has_segment(1) && heap.has_segment(2), true);
-    if heap.has_segment(1) && heap.has_segment(2) {
-        assert_eq!(rt; (heap.all_free(1), heap.all_free(2)), (true, false));
-        assert_eq!(rt; heap.drop_segment(2), 257);
-    }
-    assert_eq!(rt;
-        (heap.has(&long), heap.has(&exact), heap.has_segment(2)),
-        (false, true, false)
-    );
-    assert_eq!(rt; heap.free_pages(), 256);
+fn a_freed_span_is_joined_and_comes_last(rt: HostRuntime) -> Result<(), Fail> {
+    let heap = crosses_threads(joined(rt.alloc())?);
+    let runs = heap.runs(rt.alloc())?;
+    assert!(rt; runs.len() == 2 && heap.free_pages() == 12);
+    assert!(rt; stands_at(&runs, 0, 2, 0, 3) && stands_at(&runs, 1, 1, 0, 9));
     Ok(())
 }

@@ -1,10 +1,14 @@
 #![tactic(auto)]
 //! Grey images of the form P5, and their tiles: square pieces of one size, at seven zooms.
+//!
+//! A file is read as the image that the grammar of P5 files spells, or refused for its first fault.
+//! A pixel of a tile is the mean of a square of samples, a half rounded up.
 
 pub mod causes;
 mod columns;
 mod fault;
 mod image;
+mod laws;
 mod limits;
 mod maker;
 mod pgm;
@@ -13,9 +17,10 @@ mod tiles;
 
 pub use fault::PgmFault;
 pub use image::Image;
-pub use limits::{MOST_FILE_BYTES, MOST_MAXVAL, MOST_SIDE, MOST_WIDE_MAXVAL};
+pub use laws::{law_image_is_spelled, law_written_is_read};
+pub use limits::{LAST_TILE, MOST_FILE_BYTES, MOST_MAXVAL, MOST_SIDE, MOST_WIDE_MAXVAL, MOST_ZOOM};
 pub use maker::ImageMaker;
-pub use pgm::{law_written_is_read, read_pgm, read_pgm_in_place};
+pub use pgm::{read_pgm, read_pgm_in_place};
 pub use tile::{Tile, TileMaker, pgm_head};
 
 #[cfg(test)]

@@ -1,3 +1,4 @@
+-- Counts that stand still at their end.
 use Rattle.std.specs.Prelude.{ℕ, ◌+◌, ◌-◌, ◌^◌, ◌≤◌, min}
 
 -- a count after one more: it stands still at the last value of u64

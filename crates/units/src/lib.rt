@@ -14,7 +14,7 @@ pub use memory::NoMemory;
 /// How many bytes a page has.
 pub const PAGE: u64 = 4096;
 
-/// How many pages a segment or a block has at most: 256 MiB.
+/// How many pages a segment or a block has at most. They hold 256 MiB.
 pub const MOST_PAGES: u32 = 65536;
 
 /// The last moment. A moment is a number from 1 to this one; 0 stands for no moment.

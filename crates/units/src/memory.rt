@@ -4,15 +4,15 @@ use std::alloc::{AllocError, AllocFailed};
 use std::error::Error;
 use std::fmt;
 
-/// Memory was wanting. It is the one answer that may come at any call that takes memory.
+/// Out of memory: the one answer that may come at every call that takes memory.
 #[derive(Clone, Copy, Debug, PartialEq, Eq, Hash)]
 pub struct NoMemory;
 
 impl fmt::Display for NoMemory {
-    ghost output = { λ _. Some (codes "no memory") };
+    ghost output = { λ _. Some (codes "out of memory") };
 
     fn fmt<W: fmt::Write>(&self, f: &mut fmt::Formatter<W>) -> fmt::Result {
-        f.write_str("no memory")
+        f.write_str("out of memory")
     }
 }
 

@@ -5,8 +5,10 @@ ghost use Rattle.units.specs.Range.{is_within};
 /// Whether each page from `first` to before `end` is as `held` says.
 pub fn all_are(pages: &[bool], first: usize, end: usize, held: bool) -> bool
     requires { end ≤ length pages.now }
-    ensures all { result ≡ true → (page : ℕ) → first ≤ page → page < end → slice_index_or pages.now page false ≡ held }
-    ensures some { result ≡ false → (page : ℕ) × (first ≤ page) × (page < end) × (slice_index_or pages.now page false ≡ not held) }
+    ensures all { result ≡ true → (page : ℕ) → first ≤ page → page < end
+        → slice_index_or pages.now page false ≡ held }
+    ensures some { result ≡ false → (page : ℕ) × (first ≤ page) × (page < end)
+        × (slice_index_or pages.now page false ≡ not held) }
 {
     for page in first..end {
         if pages[page] != held {
@@ -16,12 +18,15 @@ pub fn all_are(pages: &[bool], first: usize, end: usize, held: bool) -> bool
     true
 }
 
-/// Makes each page of a range as `held` says, where none of them is so yet. How many pages are held changes by as many.
+/// Makes each page of a range as `held` says, where none of them is so yet. The count of held pages changes by `count`.
 pub fn set_all(pages: &mut [bool], first: usize, count: usize, held: bool)
     requires inside { first + count ≤ length pages.old }
-    requires other { (page : ℕ) → first ≤ page → page < first + count → slice_index_or pages.old page false ≡ not held }
-    ensures after { (page : ℕ) → slice_index_or pages.new page false ≡ (if is_within first count page then held else slice_index_or pages.old page false) }
-    ensures counted { count_by (λ b. b) pages.new + (if held then 0 else count) ≡ count_by (λ b. b) pages.old + (if held then count else 0) }
+    requires other { (page : ℕ) → first ≤ page → page < first + count
+        → slice_index_or pages.old page false ≡ not held }
+    ensures after { (page : ℕ) → slice_index_or pages.new page false
+        ≡ (if is_within first count page then held else slice_index_or pages.old page false) }
+    ensures counted { count_by (λ b. b) pages.new + (if held then 0 else count)
+        ≡ count_by (λ b. b) pages.old + (if held then count else 0) }
 {
     for page in first..first + count {
         pages[page] = held;

@@ -36,7 +36,8 @@ impl Calls {
     /// Counts one more call, and answers whether it fails.
     pub(crate) fn next_fails(&mut self) -> bool
         ensures told { IsTrue result ↔ NextFails self.old }
-        ensures counted { self.new ≡ (if result then one_more_failed self.old else one_more self.old) }
+        ensures counted { self.new
+            ≡ (if result then one_more_failed self.old else one_more self.old) }
         ensures later { self.old.faults ≤ self.new.faults }
     {
         self.made = self.made.saturating_add(1);

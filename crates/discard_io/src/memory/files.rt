@@ -2,11 +2,11 @@ ghost use Rattle.std.specs.Prelude.{◌≡◌, ◌↔◌, ◌⊎◌, ◌≤◌, 
 
 use super::calls::Calls;
 use crate::files::{FileFault, Files};
-use units::NoMemory;
 use std::alloc::Global;
 use std::collections::BTreeMap;
+use units::NoMemory;
 
-/// Files in memory, which fail at chosen reads.
+/// Files in memory, which fail at chosen reads, and at each read of a name that is not there.
 #[derive(Debug, Drop)]
 pub struct MemFiles {
     files: BTreeMap<String, Vec<u8>>,
@@ -28,7 +28,7 @@ impl MemFiles {
         })
     }
 
-    /// Puts these bytes under a name, in place of those that stood there.
+    /// Puts these bytes under a name, in place of those that stood there. Where memory runs out, nothing changes.
     pub fn add(&mut self, alloc: Global, name: &str, bytes: &[u8]) -> Result<(), NoMemory>
         ensures added { OnOk result ((other : List ℕ) → bytes_under self.new other
             ≡ (if bytes_eq other name.now then Some bytes.now else bytes_under self.old other)) }

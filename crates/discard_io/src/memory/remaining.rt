@@ -30,7 +30,7 @@ impl Remaining {
         })
     }
 
-    /// Moves as many of the next bytes as there are and have room into the front of `buf`, and answers how many.
+    /// Moves the next bytes into the front of `buf`, as many as there are and fit, and answers how many.
     pub(crate) fn read(&mut self, buf: &mut [u8]) -> usize
         ensures count { result ≡ min (length buf.old) (length self.old) }
         ensures moved { buf.new ≡ take result self.old ++ drop result buf.old }

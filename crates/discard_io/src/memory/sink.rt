@@ -4,11 +4,11 @@ ghost use Rattle.discard_io.specs.Memory.{Writing, no_calls, NextFails, one_more
 use super::calls::Calls;
 use crate::sink::Sink;
 use crate::status::Failed;
-use units::NoMemory;
 use std::alloc::Global;
 use std::marker::Model;
+use units::NoMemory;
 
-/// A sink in memory, which has room for so many bytes, takes at most so many a call, and fails at chosen calls.
+/// A sink in memory, with a limit on all bytes and on the bytes that one call moves. It fails at chosen calls.
 #[derive(Debug, Drop)]
 pub struct MemSink {
     bytes: Vec<u8>,
@@ -20,14 +20,20 @@ pub struct MemSink {
 impl Model for MemSink {
     ghost Value = { Writing };
 
-    ghost view = { λ s. record { written = s.bytes.items; room = s.room; most = s.most; calls = s.calls } };
+    ghost view = { λ s. record {
+      written = s.bytes.items;
+      room = s.room;
+      most = s.most;
+      calls = s.calls;
+    } };
 
-    ghost invariant = { λ s. (1 ≤ s.most) × (vec_len s.bytes ≤ s.room) × (s.room ≤ vec_capacity s.bytes) };
+    ghost invariant = { λ s.
+        (1 ≤ s.most) × (vec_len s.bytes ≤ s.room) × (s.room ≤ vec_capacity s.bytes) };
 }
 
 impl MemSink {
-    /// An empty sink with room for `room` bytes, which it takes now, and of which a call fills at most `most`. The
-    /// calls whose numbers stand in `fails`, counted from 1, fail.
+    /// An empty sink that takes at most `room` bytes, and at most `most` a call. The calls whose numbers stand in
+    /// `fails`, counted from 1, fail, and so does one with a piece that is not empty where no room is left.
     pub fn new(alloc: Global, room: u32, most: u32, fails: &[u64]) -> Result<MemSink, NoMemory>
         requires { 1 ≤ most }
         ensures { IfOk result (λ sink.
@@ -60,7 +66,8 @@ impl Sink for MemSink {
         ensures fails { IsErr result ↔ (NextFails self.old.calls
             ⊎ ((0 < length piece.now) × (length self.old.written ≡ self.old.room))) }
         ensures count { IfOk result (λ n.
-            n ≡ min (min (length piece.now) self.old.most) (self.old.room - length self.old.written)) }
+            let room = self.old.room - length self.old.written in
+            n ≡ min (min (length piece.now) self.old.most) room) }
         ensures appended { IfOk result (λ n. self.new ≡ record self.old {
           written = self.old.written ++ take n piece.now;
           calls = one_more self.old.calls;
@@ -79,7 +86,7 @@ impl Sink for MemSink {
             return Err(Failed);
         }
         let count = piece.len().min(self.most as usize).min(room);
-        // The room was taken when the sink was made.
+        // The memory for the whole room was taken when the sink was made.
         self.bytes.extend_from_slice(&piece[..count]).unwrap();
         Ok(count)
     }

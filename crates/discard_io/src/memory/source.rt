@@ -5,12 +5,12 @@ use super::calls::Calls;
 use super::remaining::Remaining;
 use crate::source::Source;
 use crate::status::Failed;
-use units::NoMemory;
 use std::alloc::Global;
 use std::cmp;
 use std::marker::Model;
+use units::NoMemory;
 
-/// A source in memory, which moves at most so many bytes a call, and fails at chosen calls.
+/// A source in memory, with a limit on the bytes that one call moves. It fails at chosen calls.
 #[derive(Debug, Drop)]
 pub struct MemSource {
     left: Remaining,
@@ -27,8 +27,8 @@ impl Model for MemSource {
 }
 
 impl MemSource {
-    /// These bytes, of which a call moves at most `most`. The calls whose numbers stand in `fails`, counted from 1,
-    /// fail.
+    /// A source of these bytes, of which a call moves at most `most`. The calls whose numbers stand in `fails`,
+    /// counted from 1, fail.
     pub fn new(alloc: Global, bytes: &[u8], most: u32, fails: &[u64]) -> Result<MemSource, NoMemory>
         requires { 1 ≤ most }
         ensures { IfOk result (λ source.

@@ -10,8 +10,8 @@ use std::io::{ErrorKind, Read};
 use std::marker::Model;
 use std::{fs, io, rt};
 
-/// The files of the system, by their paths. Each error but the want of memory counts as a fault, and they tell nothing
-/// of what stands in them.
+/// The files of the system, by their paths. Each error but being out of memory counts as a fault. They tell nothing of
+/// what stands in them.
 #[derive(Drop)]
 pub struct DirFiles<'a, R> {
     system: &'a R,

@@ -1,6 +1,6 @@
-ghost use Rattle.std.specs.Prelude.{◌≡◌, ◌≤◌, ◌<◌, None, length, take, is_ok, if◌then◌else◌, IfOk};
+ghost use Rattle.std.specs.Prelude.{◌≡◌, ◌≤◌, ◌<◌, None, length, take, IfOk};
 ghost use Rattle.std.specs.Io.KnownBytes.{Appends};
-ghost use Rattle.units.specs.Count.{next_count};
+ghost use Rattle.discard_io.specs.Faults.{call_faults};
 
 use crate::sink::Sink;
 use crate::status::Failed;
@@ -8,8 +8,8 @@ use std::io;
 use std::io::Write;
 
 /// A sink over one of std's writers, such as the standard output, which it flushes after each write. Each error counts
-/// as a fault, and so does a write that takes nothing of a piece that isn't empty. It tells nothing of what was
-/// written.
+/// as a fault, also of the flush, and so does a write that takes nothing of a piece that is not empty. It tells neither
+/// what was written nor how many writes were made.
 #[derive(Debug, Drop)]
 pub struct StdSink<W> {
     writer: W,
@@ -42,9 +42,9 @@ impl<W: Write> Sink for StdSink<W> {
         ensures some { IfOk result (λ n. 0 < length piece.now → 0 < n) }
         // Where the writer tells its bytes, these were appended.
         ensures bytes { IfOk result (λ n.
-            Appends (W.contents (writer_of self.old)) (W.contents (writer_of self.new)) (take n piece.now)) }
-        ensures counted { sink_faults self.new
-            ≡ (if is_ok result then sink_faults self.old else next_count (sink_faults self.old)) }
+            Appends (W.contents (writer_of self.old)) (W.contents (writer_of self.new))
+            (take n piece.now)) }
+        ensures counted { sink_faults self.new ≡ call_faults result (sink_faults self.old) }
         ensures later { sink_faults self.old ≤ sink_faults self.new }
     {
         match write_and_flush(&mut self.writer, piece) {
@@ -57,9 +57,11 @@ impl<W: Write> Sink for StdSink<W> {
     }
 }
 
+// Writes once, and then flushes.
 fn write_and_flush<W: Write>(writer: &mut W, piece: &[u8]) -> io::Result<usize>
     ensures within { IfOk result (λ n. n ≤ length piece.now) }
-    ensures bytes { IfOk result (λ n. Appends (W.contents writer.old) (W.contents writer.new) (take n piece.now)) }
+    ensures bytes { IfOk result (λ n.
+        Appends (W.contents writer.old) (W.contents writer.new) (take n piece.now)) }
 {
     let count = writer.write(piece)?;
     writer.flush()?;

@@ -1,13 +1,13 @@
-ghost use Rattle.std.specs.Prelude.{◌≡◌, ◌≤◌, None, length, is_ok, if◌then◌else◌, IfOk};
+ghost use Rattle.std.specs.Prelude.{◌≡◌, ◌≤◌, None, length, IfOk};
 ghost use Rattle.std.specs.Io.KnownBytes.{ReadConsumes};
-ghost use Rattle.units.specs.Count.{next_count};
+ghost use Rattle.discard_io.specs.Faults.{call_faults};
 
 use crate::source::Source;
 use crate::status::Failed;
 use std::io::Read;
 
-/// A source over one of std's readers, such as the standard input. Each error counts as a fault, and it tells nothing
-/// of what is left.
+/// A source over one of std's readers, such as the standard input. Each error counts as a fault. It tells neither what
+/// is left nor how many reads were made.
 #[derive(Debug, Drop)]
 pub struct StdSource<R> {
     reader: R,
@@ -40,8 +40,7 @@ impl<R: Read> Source for StdSource<R> {
         // Where the reader tells its bytes, these are the next ones.
         ensures bytes { ReadConsumes
             (R.remaining (reader_of self.old)) (R.remaining (reader_of self.new)) result buf.new }
-        ensures counted { source_faults self.new
-            ≡ (if is_ok result then source_faults self.old else next_count (source_faults self.old)) }
+        ensures counted { source_faults self.new ≡ call_faults result (source_faults self.old) }
         ensures later { source_faults self.old ≤ source_faults self.new }
     {
         match self.reader.read(buf) {

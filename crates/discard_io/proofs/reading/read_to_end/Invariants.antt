@@ -9,7 +9,7 @@ invariant-loop-bytes g l = record {
   buffer : 0 < vec_len l.buffer;
   taken : Took (g.S.Source.left l.fn.source) l.bytes.items (g.S.Source.left l.source);
   reads : CalledAtMost (g.S.Source.reads l.fn.source) (vec_len l.bytes) (g.S.Source.reads l.source);
-  later : g.S.Source.faults l.fn.source ≤ g.S.Source.faults l.source
+  later : g.S.Source.faults l.fn.source ≤ g.S.Source.faults l.source;
 }
 
 abbrev pub decreases-loop-bytes : goal.decreases-loop-bytes

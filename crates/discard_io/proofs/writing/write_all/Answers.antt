@@ -12,7 +12,7 @@ loop-at-preserved g c =
       written = appended-front _ _ _ _ _ _ kept.written c.in_ok-at.ensures.appended;
       writes = called-within _ (c.loop-at.at + 1) _ _ (called-one_more _ _ _ _ kept.writes c.write.ensures.counted) (omega arith);
       untouched = λ none. absurd (omega (arith, none));
-      later = omega (arith, kept.later, c.write.ensures.later)
+      later = omega (arith, kept.later, c.write.ensures.later);
     }
 
 pub returns-clause-nothing : goal.returns-clause-nothing

@@ -9,7 +9,7 @@ invariant-loop-at g l = record {
   written : g.O.Sink.written l.sink ≡ appended (g.O.Sink.written l.fn.sink) (take l.at l.bytes);
   writes : CalledAtMost (g.O.Sink.writes l.fn.sink) l.at (g.O.Sink.writes l.sink);
   untouched : l.at ≡ 0 → l.sink ≡ l.fn.sink;
-  later : g.O.Sink.faults l.fn.sink ≤ g.O.Sink.faults l.sink
+  later : g.O.Sink.faults l.fn.sink ≤ g.O.Sink.faults l.sink;
 }
 
 abbrev pub decreases-loop-at : goal.decreases-loop-at

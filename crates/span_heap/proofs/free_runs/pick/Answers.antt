@@ -1,5 +1,5 @@
 use Rattle.std.proofs.Common.{◌-◌}
-use Rattle.span_heap.proofs.Picks.{HasPicked-takes, HasPicked-unfitting, HasPicked-longer}
+use Rattle.span_heap.proofs.SearchTakesThePick.{HasPicked-takes, HasPicked-unfitting, HasPicked-longer}
 use Rattle.span_heap.proofs.free_runs.pick.Goals as goal
 use Rattle.span_heap.proofs.free_runs.pick.Goals.{then-fits+then-length-least, else-fits, else-fits-via-then-fits+else-length-least, else-fits-via-else-fits}
 

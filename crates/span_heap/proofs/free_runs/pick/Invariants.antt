@@ -1,5 +1,5 @@
 use Rattle.std.proofs.Common.{◌-◌}
-use Rattle.span_heap.proofs.Picks.{HasPicked}
+use Rattle.span_heap.proofs.SearchTakesThePick.{HasPicked}
 use Rattle.span_heap.proofs.free_runs.pick.Given as goal
 
 abbrev pub invariant-loop-place : goal.invariant-loop-place

@@ -3,7 +3,7 @@ use Rattle.std.specs.List.{position}
 use Rattle.std.specs.List.Sorted.{IsPermutation}
 use Rattle.std.proofs.lemmas.List.Sorted.{IsPermutation-swap_remove}
 use Rattle.span_heap.specs.Run.{is_run}
-use Rattle.span_heap.proofs.Found.{found_there, is_found}
+use Rattle.span_heap.proofs.PartitionByCounts.{found_there, is_found}
 use Rattle.span_heap.proofs.used_spans.take_out.Goals as goal
 
 pub returns-in-Some-clause-rest : goal.returns-in-Some-clause-rest

@@ -1,9 +1,8 @@
-use Rattle.std.proofs.Common.{ap, ◌∙◌, arith}
-use Rattle.discard_book.specs.Live.{live, live_after}
+use Rattle.std.proofs.Common.{ap, refl, ◌∙◌, arith}
 use Rattle.discard_book.specs.Legal.{fits_after}
 use Rattle.discard_book.specs.Log.{Log}
 use Rattle.discard_book.proofs.Pushed.{live-push, IsLegal-push}
-use Rattle.discard_book.proofs.Kept.{can_follow, Keeps-push}
+use Rattle.discard_book.proofs.Kept.{can_follow, Keeps-push, granted-follows}
 use Rattle.discard_book.proofs.book.Book.add.Goals as goal
 
 pub follow-requires-clause-can : goal.follow-requires-clause-can
@@ -20,11 +19,15 @@ invariant_of-self c =
       omega (arith, spare, c.self.invariant.2),
     )
 
-pub returns-clause-live : goal.returns-clause-live
-returns-clause-live c =
-    ap live c.push_reserved.ensures.items ∙ live-push c.self.inside.entries.items c.args.entry ∙ ap (λ (log : Log). live_after (live log.entries) c.args.entry) c.self.view_is
-
-pub returns-clause-legal : goal.returns-clause-legal
-returns-clause-legal c =
+pub returns : goal.returns
+returns c =
+    let entries = c.self.inside.entries.items in
     let fits = ap (λ (log : Log). fits_after log.entries c.args.entry) c.self.view_is ∙ c.requires.fits in
-    rw c.push_reserved.ensures.items (IsLegal-push c.self.inside.entries.items c.args.entry c.self.invariant.0.legal fits)
+    let spare = ap (λ (log : Log). log.spare) c.self.view_is in
+    rw (← c.self.view_is, c.push_reserved.ensures.items) record {
+      entries = refl;
+      spare = omega (arith, spare, c.requires.spare);
+      live = live-push entries c.args.entry;
+      granted = granted-follows entries c.self.inside.segments.pages.items c.args.entry c.self.invariant.0 fits;
+      legal = IsLegal-push entries c.args.entry c.self.invariant.0.legal fits;
+    }

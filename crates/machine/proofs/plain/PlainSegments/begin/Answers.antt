@@ -1,5 +1,6 @@
 use Rattle.std.proofs.Common.{◌≡◌, ℕ, List, ◌∷◌, nat_lt, nat_le, ◌&&◌, false, sym, ap, subst, ◌∙◌, arith}
 use Rattle.std.proofs.lemmas.Bool.Decides.{nat_tests}
+use Rattle.units.specs.declared.TheConstants.{MOST_PAGES}
 use Rattle.machine.specs.declared.event.Event.{Event}
 use Rattle.machine.specs.declared.event.Answer.TheVariants.{Granted, Misuse}
 use Rattle.machine.specs.declared.event.Answer.{Answer}
@@ -24,7 +25,7 @@ returns-in_default c = record {
 -- such a Grant is a misuse
 out_of_range : (c : goal.Joined-then-client-lt1) (h : History) → Misuse ≡ answer_of h c.args.event.now
 out_of_range c h =
-    let fails : (nat_lt 0 c.in-Grant.client && nat_le 1 c.in-Grant.pages && nat_le c.in-Grant.pages 65536) ≡ false =
+    let fails : (nat_lt 0 c.in-Grant.client && nat_le 1 c.in-Grant.pages && nat_le c.in-Grant.pages MOST_PAGES) ≡ false =
     elim c.then-client-lt1.branch [
       | then-client-lt1-via-then-client-lt1 w ↦ grind (arith, nat_tests)
       | then-client-lt1-via-else-client-lt1+then-pages-lt1 w ↦ grind (arith, nat_tests)

@@ -1,4 +1,4 @@
-use Rattle.span_heap.proofs.Found.{stands_there}
+use Rattle.span_heap.proofs.PartitionByCounts.{stands_there}
 use Rattle.span_heap.proofs.heap.Heap.has.Goals as goal
 
 pub returns-clause-answer : goal.returns-clause-answer
