@@ -2,8 +2,10 @@
 use Rattle.std.specs.Prelude.{◌≡◌}
 use Rattle.replay_run.specs.declared.config.ReplayCfg.{ReplayCfg}
 
--- the settings are those of a replay whose words name none
-pub record HoldsDefaults (cfg : ReplayCfg) : Type 0 where
-  pub limit : cfg.limit ≡ 1048576
-  pub standard : cfg.standard ≡ 64
-  pub keep : cfg.keep ≡ 16
+-- the settings of a replay whose words name none
+abbrev pub default_settings : ReplayCfg
+default_settings = record { limit = 1048576; standard = 64; keep = 16 }
+
+-- the settings are these
+abbrev pub HoldsDefaults : ReplayCfg → Type 0
+HoldsDefaults cfg = cfg ≡ default_settings
