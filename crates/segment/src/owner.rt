@@ -111,8 +111,7 @@ impl OwnerSide {
         if self.phase == Phase::Gone {
             return Lock::Gone;
         }
-        self.block = self.seat.lock(self.last);
-        if self.block.is_some() {
+        if self.seat.lock(self.last, &mut self.block) {
             self.phase = Phase::Held;
             Lock::Held
         } else {
@@ -129,10 +128,7 @@ impl OwnerSide {
         ensures { self.new ≡ after_unlock now self.old }
     {
         let stamp = now.max(self.last);
-        let Some(block) = self.block.take() else {
-            unreachable!()
-        };
-        self.seat.unlock(stamp, block);
+        self.seat.unlock(stamp, &mut self.block);
         self.last = stamp;
         self.phase = Phase::Idle;
     }

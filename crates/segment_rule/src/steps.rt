@@ -1,5 +1,5 @@
 //! The steps on a segment's word, each one exchange or one load, and what a side has after them.
-ghost use Rattle.std.specs.Prelude.{◌≡◌, ◌≢◌, ◌*◌, ◌<◌, ◌≤◌, ◌==◌, ℕ, List, true, false, [], ◌∷◌, Some, None, IfOk, MatchBool, MatchOption, length};
+ghost use Rattle.std.specs.Prelude.{◌≡◌, ◌≢◌, ◌*◌, ◌<◌, ◌≤◌, ◌==◌, ℕ, List, true, false, [], ◌∷◌, Some, None, IfOk, IfSome, MatchBool, MatchOption, length};
 ghost use Rattle.units.specs.declared.TheConstants.{PAGE};
 ghost use Rattle.units.specs.Moment.{IsMoment};
 ghost use Rattle.segment_rule.specs.Views.{fresh_owner, fresh_warden, settled, parted, owner_holds, owner_loses, owner_rests, owner_stays, warden_tries, expected_word, IsTimely};
@@ -87,35 +87,40 @@ fn try_at<M: Moment>(shelf: &Shelf, seat: &mut Place, expected: u64) -> u64
     shelf.compare_exchange::<Tries<M>>(seat, 0, expected, purged())
 }
 
-/// An idle owner locks. It has the block, or it found the purged word.
-pub fn take_up(shelf: &Shelf, seat: &mut Place, last: u64) -> Option<Block>
+/// An idle owner locks. It answers true and has the block in its hand, or it found the purged word.
+pub fn take_up(shelf: &Shelf, seat: &mut Place, last: u64, hand: &mut Option<Block>) -> bool
     requires table { Fits seat.old.table_id shelf.now.table_id }
     requires owner { (seat.old.me ≡ (Owner (owner_of seat.old.me.0), [])) × ((owner_of seat.old.me.0).phase ≡ Idle) }
     requires last { ((owner_of seat.old.me.0).last ≡ last) × IsMoment last }
+    requires free { hand.old ≡ None }
     ensures table { seat.new.table_id ≡ seat.old.table_id }
     ensures made { OwnerMakes kinds.Locks (owner_of seat.old.me.0) (owner_of seat.new.me.0) }
-    ensures told { MatchOption result
-        (seat.new.me ≡ (Owner (owner_loses (owner_of seat.old.me.0)), []))
-        (λ b. (b ≡ (owner_of seat.old.me.0).left) × (seat.new.me ≡ (Owner (owner_holds (owner_of seat.old.me.0)), (0, None) ∷ []))) }
+    ensures told { MatchBool result
+        ((hand.new ≡ Some (owner_of seat.old.me.0).left)
+        × (seat.new.me ≡ (Owner (owner_holds (owner_of seat.old.me.0)), (0, None) ∷ [])))
+        ((hand.new ≡ None) × (seat.new.me ≡ (Owner (owner_loses (owner_of seat.old.me.0)), []))) }
 {
     if lock(shelf, seat, last) == purged() {
-        None
-    } else {
-        shelf.exchange(seat, 0, None)
+        return false;
     }
+    *hand = shelf.exchange(seat, 0, None);
+    true
 }
 
-/// An owner that holds lays its block down at a stamp.
-pub fn lay_down(shelf: &Shelf, seat: &mut Place, stamp: u64, block: Block)
+/// An owner that holds lays the block in its hand down at a stamp.
+pub fn lay_down(shelf: &Shelf, seat: &mut Place, stamp: u64, hand: &mut Option<Block>)
     requires table { Fits seat.old.table_id shelf.now.table_id }
     requires owner { (seat.old.me ≡ (Owner (owner_of seat.old.me.0), (0, None) ∷ [])) × ((owner_of seat.old.me.0).phase ≡ Held) }
-    requires block { length block ≡ PAGE * (owner_of seat.old.me.0).pages }
+    requires block { (b : List ℕ) × (hand.old ≡ Some b) × (length b ≡ PAGE * (owner_of seat.old.me.0).pages) }
     requires stamp { IsMoment stamp × ((owner_of seat.old.me.0).last ≤ stamp) }
     ensures table { seat.new.table_id ≡ seat.old.table_id }
-    ensures made { OwnerMakes (kinds.Unlocks stamp block) (owner_of seat.old.me.0) (owner_of seat.new.me.0) }
-    ensures idle { seat.new.me ≡ (Owner (owner_rests stamp block (owner_of seat.old.me.0)), []) }
+    ensures made { IfSome hand.old (λ b. OwnerMakes (kinds.Unlocks stamp b) (owner_of seat.old.me.0) (owner_of seat.new.me.0)) }
+    ensures idle { IfSome hand.old (λ b. seat.new.me ≡ (Owner (owner_rests stamp b (owner_of seat.old.me.0)), [])) }
+    ensures empty { hand.new ≡ None }
 {
-    shelf.exchange(seat, 0, Some(block));
+    let None = shelf.exchange(seat, 0, hand.take()) else {
+        unreachable!()
+    };
     unlock(shelf, seat, stamp);
 }
 
