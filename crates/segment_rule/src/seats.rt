@@ -33,7 +33,8 @@ impl Model for OwnerSeat {
 
     ghost view = { λ s. owner_of s.seat.me.0 };
 
-    ghost invariant = { λ s. IsOwner (arc_value s.table).shared.table_id s.seat.table_id s.seat.me };
+    ghost invariant = { λ s.
+        IsOwner (arc_value s.table).shared.table_id s.seat.table_id s.seat.me };
 }
 
 /// The warden's seat at a segment.
@@ -52,7 +53,8 @@ impl Model for WardenSeat {
 
     ghost view = { λ s. warden_of s.seat.me.0 };
 
-    ghost invariant = { λ s. IsWarden (arc_value s.table).shared.table_id s.seat.table_id s.seat.me };
+    ghost invariant = { λ s.
+        IsWarden (arc_value s.table).shared.table_id s.seat.table_id s.seat.me };
 }
 
 /// The two seats of a new segment with this number and so many pages: its owner holds it, and its
@@ -76,8 +78,8 @@ pub fn make(alloc: Global, id: u64, pages: u32) -> Result<(OwnerSeat, WardenSeat
 }
 
 impl OwnerSeat {
-    /// Locks an idle segment by one exchange. It answers true and lays the block with the bytes left into
-    /// the hand, or answers false exactly where it found the purged word.
+    /// Locks an idle segment by one exchange. It answers true and lays the block with the bytes left
+    /// into the hand, or answers false exactly where it found the purged word.
     pub fn lock(&mut self, last: u64, hand: &mut Option<Block>) -> bool
         requires idle { self.old.phase ≡ Idle }
         requires last { last ≡ self.old.last }
@@ -103,19 +105,21 @@ impl OwnerSeat {
         lay_down(&self.table.shared, &mut self.seat, stamp, hand);
     }
 
-    /// Looks at the word of an idle segment by one load: false exactly where it found the purged word.
+    /// Looks at the word of an idle segment by one load: false exactly where it found the purged
+    /// word.
     pub fn look(&mut self) -> bool
         requires { self.old.phase ≡ Idle }
         ensures made { OwnerMakes kinds.Looks self.old self.new }
-        ensures told { MatchBool result (self.new ≡ owner_stays self.old) (self.new ≡ owner_loses self.old) }
+        ensures told { MatchBool result
+            (self.new ≡ owner_stays self.old) (self.new ≡ owner_loses self.old) }
     {
         is_there(&self.table.shared, &mut self.seat)
     }
 }
 
 impl WardenSeat {
-    /// Tries to purge at a moment by one exchange, where it has not taken the block. It answers the word
-    /// that it found, and the block exactly where that is the word that it expected.
+    /// Tries to purge at a moment by one exchange, where it has not taken the block. It answers the
+    /// word that it found, and the block exactly where that is the word that it expected.
     pub fn try_purge(&mut self, expected: u64, now: u64) -> (u64, Option<Block>)
         requires free { self.old.taken ≡ false }
         requires expected { expected ≡ expected_word self.old.tries }

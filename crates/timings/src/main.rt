@@ -1,7 +1,7 @@
 #![tactic(auto)]
 //! `timings`: how long single calls take, each beside a plain one in the same run. With no words it
-//! does nothing. Each word is the name of a measurement, `locks`, `tries` or `looks`, whose two times it
-//! prints, in picoseconds a turn.
+//! does nothing. Each word is the name of a measurement, `locks`, `tries` or `looks`, whose two times
+//! it prints, in picoseconds a turn.
 
 mod segment_steps;
 

@@ -152,8 +152,8 @@ pub fn looks<C: Clock>(clock: &C, alloc: Global) -> io::Result<Times> {
     Ok(times)
 }
 
-/// Looks until the segment is gone. A look and a load are calls of their own, so that both loops are
-/// alike: inlined, either is a few cycles, which the place of the loop in memory doubles.
+/// Looks until the segment is gone. A look and a load are calls of their own, so that both loops
+/// are alike: inlined, either is a few cycles, which the place of the loop in memory doubles.
 #[inline(never)]
 fn look_on(owner: &mut OwnerSide, turns: u64) {
     for _ in 0..turns {
