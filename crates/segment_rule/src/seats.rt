@@ -1,0 +1,125 @@
+//! The two seats of a segment: each makes its own kinds of step, at most one in a call.
+ghost use Rattle.std.specs.Prelude.{◌≡◌, ◌≢◌, ◌*◌, ◌≤◌, false, IfOk, IfSome, MatchBool, MatchOption, length};
+ghost use Rattle.units.specs.declared.TheConstants.{PAGE};
+ghost use Rattle.units.specs.Moment.{IsMoment};
+ghost use Rattle.segment_rule.specs.declared.view.Stage.TheVariants.{Held, Idle};
+ghost use Rattle.segment_rule.specs.Views.{owner_holds, owner_loses, owner_rests, owner_stays, fresh_warden, expected_word};
+ghost use Rattle.segment_rule.specs.Kinds.{made};
+ghost use Rattle.segment_rule.specs.Kinds as kinds;
+ghost use Rattle.segment_rule.specs.Seats.{OwnerMakes, WardenMakes, AfterTry};
+
+use crate::rule::{Owned, Place};
+use crate::steps::{is_there, lay_down, open, settle, split, take_away, take_up};
+use block_pool::Block;
+use std::alloc::Global;
+use std::marker::{Brand, Model};
+use std::sync::Arc;
+use units::NoMemory;
+
+/// The owner's seat at a segment. While it holds, the place at home is out with it, empty, and its
+/// block is in the hand of whoever calls it.
+#[derive(Drop)]
+pub struct OwnerSeat {
+    table: Arc<Owned, Global>,
+    seat: Place,
+}
+
+impl Model for OwnerSeat {
+    ghost use Rattle.std.specs.Arc.{arc_value};
+    ghost use Rattle.segment_rule.specs.declared.view.OwnerView.{OwnerView};
+    ghost use Rattle.segment_rule.specs.Seats.{owner_of, IsOwner};
+
+    ghost Value = { OwnerView };
+
+    ghost view = { λ s. owner_of s.seat.me.0 };
+
+    ghost invariant = { λ s. IsOwner (arc_value s.table).shared.table_id s.seat.table_id s.seat.me };
+}
+
+/// The warden's seat at a segment.
+#[derive(Drop)]
+pub struct WardenSeat {
+    table: Arc<Owned, Global>,
+    seat: Place,
+}
+
+impl Model for WardenSeat {
+    ghost use Rattle.std.specs.Arc.{arc_value};
+    ghost use Rattle.segment_rule.specs.declared.view.WardenView.{WardenView};
+    ghost use Rattle.segment_rule.specs.Seats.{warden_of, IsWarden};
+
+    ghost Value = { WardenView };
+
+    ghost view = { λ s. warden_of s.seat.me.0 };
+
+    ghost invariant = { λ s. IsWarden (arc_value s.table).shared.table_id s.seat.table_id s.seat.me };
+}
+
+/// The two seats of a new segment with this number and so many pages: its owner holds it, and its
+/// warden has tried nothing.
+pub fn make(alloc: Global, id: u64, pages: u32) -> Result<(OwnerSeat, WardenSeat), NoMemory>
+    ensures owner { IfOk result (λ seats. seats.0 ≡ (made id pages).owner) }
+    ensures warden { IfOk result (λ seats. seats.1 ≡ (made id pages).warden) }
+{
+    let (table, mut seat) = open(alloc, id, pages)?;
+    let mine = Arc::new(alloc, table)?;
+    let theirs = Arc::try_clone(&mine)?;
+    settle(&mine.shared, &mut seat);
+    let other = split(&mine.shared, &mut seat);
+    Ok((
+        OwnerSeat { table: mine, seat },
+        WardenSeat {
+            table: theirs,
+            seat: other,
+        },
+    ))
+}
+
+impl OwnerSeat {
+    /// Locks an idle segment by one exchange: the block with the bytes left, or none exactly where it
+    /// found the purged word.
+    pub fn lock(&mut self, last: u64) -> Option<Block>
+        requires idle { self.old.phase ≡ Idle }
+        requires last { last ≡ self.old.last }
+        ensures made { OwnerMakes kinds.Locks self.old self.new }
+        ensures told { MatchOption result (self.new ≡ owner_loses self.old)
+            (λ block. (block ≡ self.old.left) × (self.new ≡ owner_holds self.old)) }
+        ensures sized { IfSome result (λ block. length block ≡ PAGE * self.old.pages) }
+    {
+        take_up(&self.table.shared, &mut self.seat, last)
+    }
+
+    /// Unlocks a held segment by one exchange, and lays its block down.
+    pub fn unlock(&mut self, stamp: u64, block: Block)
+        requires held { self.old.phase ≡ Held }
+        requires stamp { IsMoment stamp × (self.old.last ≤ stamp) }
+        requires block { length block ≡ PAGE * self.old.pages }
+        ensures made { OwnerMakes (kinds.Unlocks stamp block) self.old self.new }
+        ensures told { self.new ≡ owner_rests stamp block self.old }
+    {
+        lay_down(&self.table.shared, &mut self.seat, stamp, block);
+    }
+
+    /// Looks at the word of an idle segment by one load: false exactly where it found the purged word.
+    pub fn look(&mut self) -> bool
+        requires { self.old.phase ≡ Idle }
+        ensures made { OwnerMakes kinds.Looks self.old self.new }
+        ensures told { MatchBool result (self.new ≡ owner_stays self.old) (self.new ≡ owner_loses self.old) }
+    {
+        is_there(&self.table.shared, &mut self.seat)
+    }
+}
+
+impl WardenSeat {
+    /// Tries to purge at a moment by one exchange, where it has not taken the block. It answers the word
+    /// that it found, and the block exactly where that is the word that it expected.
+    pub fn try_purge(&mut self, expected: u64, now: u64) -> (u64, Option<Block>)
+        requires free { self.old.taken ≡ false }
+        requires expected { expected ≡ expected_word self.old.tries }
+        requires moment { IsMoment now }
+        ensures made { WardenMakes (kinds.Tries now) self.old self.new }
+        ensures told { AfterTry now self.old result.0 result.1 self.new }
+    {
+        take_away::<Brand>(&self.table.shared, &mut self.seat, expected, now)
+    }
+}
