@@ -3,4 +3,3 @@ pub mod Files
 pub mod Options
 pub mod Parts
 pub mod Reading
-pub mod Reports

@@ -24,8 +24,10 @@ pub(crate) fn write_tile<O: Sink, F: Files>(
     requires tile { IsTile tile }
     requires side { IsSide side }
     ensures ends { TileEnds side tile result
-        (drives (F.bytes files.old file.now) (F.faults files.old) (O.written out.old) (O.faults out.old))
-        (drives (F.bytes files.new file.now) (F.faults files.new) (O.written out.new) (O.faults out.new)) }
+        (drives (F.bytes files.old file.now) (F.faults files.old)
+        (O.written out.old) (O.faults out.old))
+        (drives (F.bytes files.new file.now) (F.faults files.new)
+        (O.written out.new) (O.faults out.new)) }
     ensures files { (name : List ℕ) → F.bytes files.new name ≡ F.bytes files.old name }
     ensures reads { F.faults files.old ≤ F.faults files.new }
     ensures writes { O.faults out.old ≤ O.faults out.new }

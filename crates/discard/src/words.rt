@@ -48,7 +48,8 @@ enum Word<'a> {
 /// option has no value, or where one stands twice. It takes no memory.
 pub(crate) fn words_given<'a>(names: &[&str], words: &'a [String]) -> Option<Given<'a>>
     requires few { length names.now ≤ MOST_OPTIONS }
-    ensures { Finds (texts_of names.now) result (words_given (texts_of names.now) (texts words.now)) }
+    ensures { Finds (texts_of names.now) result
+        (words_given (texts_of names.now) (texts words.now)) }
 {
     let mut given = Given {
         positional: FewWords::Zero,
@@ -110,7 +111,8 @@ fn word_of<'a>(names: &[&str], word: &'a str) -> Word<'a>
 fn option_parts<'a>(text: &'a str) -> (&'a str, Option<&'a str>)
     ensures name { result.0.now ≡ before_first is_equals text.now }
     ensures value { option_map (λ value. value.now) result.1
-        ≡ (if is_some (position is_equals text.now) then Some (after_first is_equals text.now) else None) }
+        ≡ (if is_some (position is_equals text.now)
+        then Some (after_first is_equals text.now) else None) }
 {
     match text.split_once('=') {
         Some((name, value)) => (name, Some(value)),
@@ -146,7 +148,8 @@ fn is_dashed(word: &str) -> bool
 /// What is given with these words, which are all positional.
 fn all_positional<'a>(given: Given<'a>, words: &'a [String]) -> Given<'a>
     ensures { (names : List (List ℕ)) → (front : GivenWords) → IsGiven names given.entry front
-        → IsGiven names result (record front { positional = front.positional ++ texts words.now }) }
+        → IsGiven names result
+        (record front { positional = front.positional ++ texts words.now }) }
 {
     let mut given = given;
     for word in words {
@@ -166,8 +169,10 @@ fn with_positional<'a>(given: Given<'a>, word: &'a str) -> Given<'a>
     }
 }
 
+/// The words with one more.
 fn with_word<'a>(few: FewWords<'a>, word: &'a str) -> FewWords<'a>
-    ensures { (words : List (List ℕ)) → AreWords few.entry words → AreWords result (words ++ word.now ∷ []) }
+    ensures { (words : List (List ℕ)) → AreWords few.entry words
+        → AreWords result (words ++ word.now ∷ []) }
 {
     match few {
         FewWords::Zero => FewWords::One(word),
@@ -187,11 +192,15 @@ fn with_option<'a>(
 ) -> Option<Given<'a>>
     requires few { length names.now ≤ MOST_OPTIONS }
     requires known { IsSome (place_in (texts_of names.now) name.now) }
-    ensures once { IfSome result (λ more. (front : GivenWords) → IsGiven (texts_of names.now) given.entry front
-        → IsGiven (texts_of names.now) more (record front { options = front.options ++ (name.now, value.now) ∷ [] })) }
-    ensures first { IfSome result (λ more. (front : GivenWords) → IsGiven (texts_of names.now) given.entry front
+    ensures once { IfSome result (λ more. (front : GivenWords)
+        → IsGiven (texts_of names.now) given.entry front
+        → IsGiven (texts_of names.now) more
+        (record front { options = front.options ++ (name.now, value.now) ∷ [] })) }
+    ensures first { IfSome result (λ more. (front : GivenWords)
+        → IsGiven (texts_of names.now) given.entry front
         → value_of name.now front.options ≡ None) }
-    ensures twice { IfNone result ((front : GivenWords) → IsGiven (texts_of names.now) given.entry front
+    ensures twice { IfNone result ((front : GivenWords)
+        → IsGiven (texts_of names.now) given.entry front
         → has_option name.now front.options ≡ true) }
 {
     let place = place_of(names, name)?;

@@ -40,8 +40,10 @@ pub fn replay<S: Source, O: Sink>(
 ) -> Replayed
     requires defaults { HoldsDefaults cfg.now }
     ensures ends { Ends cfg.now result
-        (devices (S.left source.old) (S.faults source.old) (O.written sink.old) (O.faults sink.old))
-        (devices (S.left source.new) (S.faults source.new) (O.written sink.new) (O.faults sink.new)) }
+        (devices (S.left source.old) (S.faults source.old)
+        (O.written sink.old) (O.faults sink.old))
+        (devices (S.left source.new) (S.faults source.new)
+        (O.written sink.new) (O.faults sink.new)) }
 {
     let bytes = match read_to_end(alloc, source, MOST_SCRIPT_BYTES) {
         Ok(bytes) => bytes,
