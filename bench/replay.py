@@ -1,44 +1,45 @@
 #!/usr/bin/env python3
 """Times `discard replay` on scripts of several sizes.
 
-    rt run (in crates/discard) builds the program; then, at the top:
-    python3 bench/replay.py [PROGRAM]
+    python3 bench/replay.py [PROGRAM ..]
 
-It prints commands per second for scripts of 64, 512 and 4,096 commands of each kind and for a script of 1 MiB, the
-ratio of the time per command between the sizes, and the peak memory beside the granted bytes and 64 bytes for each
-byte of the script. Each time is the least of several runs, less that of an empty script, so that the start of a
-process is left out. The replies are compared with what the script must give.
+A program is by default the built one, crates/discard/out/discard; where several are named, as an older build and a newer
+one, each is measured. The programs and scripts take turns, an empty script among them, many times over. Of each script the
+time is its processor time less that of the empty script in the same turn, so that the start of a process is left out: printed
+are the median over all turns and, in parentheses, the quartiles. Where a quarter of these differences is not above 0, the
+script took less than what the machine's noise hides. Before, the replies are compared with what the script must give.
 """
 
 import os
 import subprocess
 import sys
 import tempfile
-import time
 
-RUNS = 15
+from measure import Spread, peak, programs, spent
+
+TURNS = 101
+MOST_BYTES = 1 << 20
+COUNTS = (64, 512, 4096)
 
 
 def mixed(count):
     """Grants, writes, reads and tries in turn, with at most 1,024 grants."""
     lines, replies, segments = [], [], 0
-    turn = 0
-    while len(lines) < count:
+    for turn in range(count):
         kind = turn % 4
-        turn += 1
         if kind == 0 and segments < 1024:
             segments += 1
             lines.append("grant 1 1 1")
             replies.append(f"segment {segments}")
-        elif kind == 1 or kind == 0:
+        elif kind < 2:
             lines.append(f"write {segments} 0 00112233")
             replies.append("ok")
         elif kind == 2:
             lines.append(f"read {segments} 0 4")
             replies.append("00112233")
         else:
-            lines.append(f"try {segments} {turn}")
-            replies.append(f"used {turn}")
+            lines.append(f"try {segments} {turn + 1}")
+            replies.append(f"used {turn + 1}")
     return lines, replies
 
 
@@ -46,120 +47,80 @@ def locks(count):
     """Locks and unlocks of one page in one segment of 512 pages."""
     lines, replies = ["grant 1 512 1", "unlock 1 0 1 1"], ["segment 1", "held 511"]
     while len(lines) < count:
-        if len(lines) % 2 == 0:
-            lines.append("lock 1 0 1")
-            replies.append("held")
-        else:
-            lines.append("unlock 1 0 1 9")
-            replies.append("held 511")
+        held = len(lines) % 2 == 0
+        lines.append("lock 1 0 1" if held else "unlock 1 0 1 9")
+        replies.append("held" if held else "held 511")
     return lines, replies
 
 
 def long_script():
     """A script of 1 MiB: writes of 500 bytes, and a comment for the rest."""
     lines, replies = ["grant 1 1 1"], ["segment 1"]
-    size = len(lines[0]) + 1
-    data = "5a" * 500
-    while size + 1020 < 1 << 20:
-        lines.append(f"write 1 0 {data}")
+    line = "write 1 0 " + "5a" * 500
+    while sum(map(len, lines)) + len(lines) + len(line) + 10 < MOST_BYTES:
+        lines.append(line)
         replies.append("ok")
-        size += len(lines[-1]) + 1
-    lines.append("#" * ((1 << 20) - size - 1))
+    lines.append("#" * (MOST_BYTES - sum(map(len, lines)) - len(lines) - 1))
     return lines, replies
-
-
-def run(program, script):
-    """The wall time of one run in seconds, its output, and its peak memory in bytes."""
-    start = time.perf_counter()
-    process = subprocess.Popen(
-        [program, "replay"], stdin=subprocess.PIPE, stdout=subprocess.PIPE, stderr=subprocess.PIPE
-    )
-    out, _ = process.communicate(script)
-    spent = time.perf_counter() - start
-    if process.returncode != 0:
-        sys.exit(f"status {process.returncode}")
-    return spent, out
-
-
-# Python's own pages would count for a process that it forks, so a small program starts the one that is measured.
-PEAK = r"""
-#include <stdio.h>
-#include <sys/resource.h>
-#include <sys/wait.h>
-#include <unistd.h>
-int main(int argc, char **argv) {
-    struct rusage usage;
-    int status;
-    pid_t child = fork();
-    if (child == 0) {
-        execv(argv[1], argv + 1);
-        _exit(127);
-    }
-    wait4(child, &status, 0, &usage);
-    fprintf(stderr, "%ld", usage.ru_maxrss);
-    return 0;
-}
-"""
-
-
-def peak(folder, program, script):
-    """The peak memory of one run, in bytes."""
-    helper = os.path.join(folder, "peak")
-    if not os.path.exists(helper):
-        with open(helper + ".c", "w") as file:
-            file.write(PEAK)
-        subprocess.run(["gcc", "-O2", "-o", helper, helper + ".c"], check=True)
-    name = os.path.join(folder, "script")
-    with open(name, "wb") as file:
-        file.write(script)
-    with open(name, "rb") as file:
-        done = subprocess.run(
-            [helper, program, "replay"], stdin=file, stdout=subprocess.DEVNULL, stderr=subprocess.PIPE, check=True
-        )
-    return int(done.stderr) * 1024
-
-
-def least(program, script, want):
-    best = None
-    for _ in range(RUNS):
-        spent, out = run(program, script)
-        if out != want:
-            sys.exit("the replies are not those of the script")
-        best = spent if best is None else min(best, spent)
-    return best
 
 
 def text(lines):
     return "".join(line + "\n" for line in lines).encode()
 
 
-def main():
-    program = sys.argv[1] if len(sys.argv) > 1 else "crates/discard/out/discard"
-    empty = least(program, b"", b"")
-    with tempfile.TemporaryDirectory() as folder:
-        measure(folder, program, empty)
+class Script:
+    def __init__(self, folder, name, lines, replies):
+        self.name = name
+        self.commands = sum(not line.startswith("#") for line in lines)
+        self.granted = 4 * sum(int(line.split()[2]) for line in lines if line.startswith("grant"))
+        self.bytes = text(lines)
+        self.replies = text(replies)
+        self.path = os.path.join(folder, name.replace(" ", "-"))
+        with open(self.path, "wb") as file:
+            file.write(self.bytes)
 
 
-def measure(folder, program, empty):
-    base = peak(folder, program, b"")
-    print(f"an empty script: {empty * 1e3:.2f} ms, {base / 1024:.0f} KiB")
+def scripts(folder):
+    yield Script(folder, "empty", [], [])
     for name, make in (("mixed", mixed), ("locks", locks)):
-        per_command = []
-        for count in (64, 512, 4096):
-            lines, replies = make(count)
-            spent = max(least(program, text(lines), text(replies)) - empty, 1e-7)
-            per_command.append(spent / len(lines))
-            print(f"{name} {count}: {len(lines) / spent:,.0f} commands a second, {spent / len(lines) * 1e9:,.0f} ns each")
-        print(f"{name}: time a command, 4096 to 512: {per_command[2] / per_command[1]:.2f}")
-    lines, replies = long_script()
-    script = text(lines)
-    spent = max(least(program, script, text(replies)) - empty, 1e-7)
-    print(f"{len(script)} bytes: {spent * 1e3:.2f} ms, {(len(lines) - 1) / spent:,.0f} commands a second, {spent / len(script) * 1e9:.2f} ns a byte")
-    for name, lines in (("mixed 4096", mixed(4096)[0]), ("1 MiB", long_script()[0])):
-        granted = 4096 * sum(1 for line in lines if line.startswith("grant"))
-        script = text(lines)
-        used = peak(folder, program, script) - base
-        print(f"{name}: peak {used / 1024:.0f} KiB over an empty run; granted {granted / 1024:.0f} KiB, 64 bytes a script byte {64 * len(script) / 1024:.0f} KiB")
+        for count in COUNTS:
+            yield Script(folder, f"{name} {count}", *make(count))
+    yield Script(folder, "1 MiB", *long_script())
+
+
+def main():
+    named = programs()
+    with tempfile.TemporaryDirectory(prefix="replay-bench-") as folder:
+        every = list(scripts(folder))
+        for program in named:
+            for script in every:
+                if subprocess.run([program, "replay"], input=script.bytes, stdout=subprocess.PIPE).stdout != script.replies:
+                    sys.exit(f"{program}: the replies to the script {script.name} are not what it must give")
+        times = {(program, script.name): [] for program in named for script in every}
+        for _ in range(TURNS):
+            for script in every:
+                for program in named:
+                    times[program, script.name].append(spent([program, "replay"], script.path, os.devnull))
+        for program in named:
+            tell(folder, program, every, {name: found for (of, name), found in times.items() if of == program})
+
+
+def tell(folder, program, every, times):
+    print(f"{program}, {TURNS} turns")
+    base = peak(folder, [program, "replay"], every[0].path)
+    print(f"  empty: {Spread(times['empty']).each(1, 1e3)} ms, peak {base} KiB")
+    for script in every[1:]:
+        above = Spread([own - empty for own, empty in zip(times[script.name], times["empty"])])
+        more = peak(folder, [program, "replay"], script.path) - base
+        memory = f"peak {more} KiB above empty, {script.granted} KiB granted"
+        if above.is_noise():
+            print(f"  {script.name}: below the noise ({above.each(1, 1e6)} µs in all); {memory}")
+        else:
+            print(f"  {script.name}: {above.each(script.commands)} ns a command, {above.each(len(script.bytes))} ns a byte; {memory}")
+    few, many = COUNTS[-2:]
+    for name in ("mixed", "locks"):
+        more = Spread([own - less for own, less in zip(times[f"{name} {many}"], times[f"{name} {few}"])])
+        print(f"  {name}: each command from {few} to {many}: {more.each(many - few)} ns")
 
 
 if __name__ == "__main__":

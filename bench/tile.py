@@ -1,25 +1,26 @@
 #!/usr/bin/env python3
 """Times `discard tile` beside a plain C program that does the same job.
 
-    python3 bench/tile.py [PROGRAM]
+    python3 bench/tile.py [PROGRAM ..]
 
-PROGRAM is the built program, by default crates/discard/out/discard. Both programs read a whole P5 file, check its
-header, make one tile of side 256 and write it. For each image and zoom the script prints the least time of several
-runs, as nanoseconds for each sample that the tile covers, and the ratio of the two. It stops where the two programs
-write different bytes. The images, the C program and what is written lie in a scratch folder that is removed.
+A program is by default the built one, crates/discard/out/discard; where several are named, each is measured. All read a whole
+P5 file, check its header, make one tile of side 256 and write it. They take turns, many times over. For each image and zoom the
+script prints the median of the processor time of the whole process, and in parentheses the quartiles, in nanoseconds for each
+sample that the tile covers; then the ratio of the medians to that of the C program. It stops where the programs write different
+bytes. The images, the C program and what is written lie in a scratch folder that is removed.
 """
 
 import os
 import random
-import subprocess
 import sys
 import tempfile
-import time
+
+from measure import Spread, compiled, programs, spent
 
 SIDE = 256
-ZOOMS = (0, 3, 6)
-IMAGES = ((8192, 8192), (640, 480))
-RUNS = 9
+ZOOMS = (0, 1, 3, 6)
+# Width, height, and how many turns.
+IMAGES = ((8192, 8192, 15), (640, 480, 101))
 
 PLAIN = r"""
 #include <stdio.h>
@@ -108,17 +109,6 @@ int main(int argc, char **argv)
 }
 """
 
-
-def built(folder):
-    """The plain C program, built in the scratch folder."""
-    source = os.path.join(folder, "plain.c")
-    program = os.path.join(folder, "plain")
-    with open(source, "w") as file:
-        file.write(PLAIN)
-    subprocess.run(["gcc", "-O2", "-o", program, source], check=True)
-    return program
-
-
 def drawn(folder, width, height):
     """A file with an image of noise."""
     path = os.path.join(folder, f"{width}x{height}.pgm")
@@ -128,41 +118,33 @@ def drawn(folder, width, height):
     return path
 
 
-def run(program, words, out):
-    """What one run of a program took, in seconds, and what it wrote."""
-    with open(out, "wb") as file:
-        start = time.perf_counter()
-        subprocess.run([program, *words], stdout=file, check=True)
-        took = time.perf_counter() - start
-    with open(out, "rb") as file:
-        return took, file.read()
+def bytes_in(path):
+    with open(path, "rb") as file:
+        return file.read()
 
 
 def main():
-    top = os.path.dirname(os.path.dirname(os.path.abspath(__file__)))
-    program = sys.argv[1] if len(sys.argv) > 1 else os.path.join(top, "crates", "discard", "out", "discard")
-    if not os.path.exists(program):
-        sys.exit(f"{program} is not there: build the program first, or name it")
+    named = programs()
     with tempfile.TemporaryDirectory(prefix="tile-bench-") as folder:
-        plain = built(folder)
-        out = os.path.join(folder, "out")
-        print(f"{'image':>11} {'z':>2} {'samples':>10} {'discard':>12} {'plain C':>12} {'ratio':>6}")
-        for width, height in IMAGES:
+        plain = compiled(folder, "plain", PLAIN)
+        every = [*named, plain]
+        outs = [os.path.join(folder, f"out-{at}") for at in range(len(every))]
+        for width, height, turns in IMAGES:
             path = drawn(folder, width, height)
             for z in ZOOMS:
                 words = ["tile", path, str(z), "0", "0", "--side", str(SIDE)]
+                times = [[] for _ in every]
+                for _ in range(turns):
+                    for program, out, found in zip(every, outs, times):
+                        found.append(spent([program, *words], os.devnull, out))
+                if len(set(map(bytes_in, outs))) > 1:
+                    sys.exit("the programs write different bytes")
                 samples = min(width, SIDE << z) * min(height, SIDE << z)
-                best = {program: float("inf"), plain: float("inf")}
-                wrote = {}
-                for _ in range(RUNS):
-                    for each in best:
-                        took, wrote[each] = run(each, words, out)
-                        best[each] = min(best[each], took)
-                if wrote[program] != wrote[plain]:
-                    sys.exit(f"{width}x{height} at z {z}: the programs wrote different bytes")
-                ours, theirs = (best[each] * 1e9 / samples for each in (program, plain))
-                size = f"{width}x{height}"
-                print(f"{size:>11} {z:>2} {samples:>10} {ours:>9.3f} ns {theirs:>9.3f} ns {ours / theirs:>6.2f}")
+                spreads = [Spread(it) for it in times]
+                print(f"{width} by {height}, zoom {z}, {samples} samples, {turns} turns:")
+                for program, spread in zip(every, spreads):
+                    name = "C" if program == plain else program
+                    print(f"  {name}: {spread.each(samples)} ns a sample, {spread.median / spreads[-1].median:.2f} of C")
 
 
 if __name__ == "__main__":

@@ -1,26 +1,16 @@
 -- How the words on streams and on counts of calls follow from one another.
-use Rattle.std.proofs.Common.{◌≡◌, ℕ, ◌+◌, ◌-◌, ◌≤◌, List, [], ◌++◌, length, take, drop, refl, sym, ap, arith, append_assoc, ◌∙◌}
+use Rattle.std.proofs.Common.{◌≡◌, ℕ, ◌+◌, ◌-◌, ◌≤◌, List, ◌++◌, length, take, drop, refl, sym, ap, arith, append_assoc, ◌∙◌}
 use Rattle.std.specs.Prelude.{Option, Some, None}
 use Rattle.std.proofs.lemmas.Grind.{common_steps}
 use Rattle.std.proofs.Math.Seq.{take-add}
 use Rattle.discard_io.specs.Counts.{CalledAtMost, one_call_more}
 use Rattle.discard_io.specs.Streams.{Took, appended}
 
--- where nothing was taken, the same is left
-pub took_nothing : (left : Option (List ℕ)) → Took left [] left
-took_nothing None = refl
-took_nothing (Some bytes) = refl
-
 -- bytes that were taken, and then some more
 pub took-append : (before : Option (List ℕ)) (first : List ℕ) (between : Option (List ℕ)) (second : List ℕ) (after : Option (List ℕ))
     → Took before first between → Took between second after → Took before (first ++ second) after
 took-append before first between second None took more = rw took (rw more refl)
 took-append before first between second (Some rest) took more = rw took (rw more (ap Some (sym (append_assoc first second rest))))
-
--- no call was made
-pub called_never : (calls : Option ℕ) (most : ℕ) → CalledAtMost calls most calls
-called_never None most = tt
-called_never (Some count) most = omega arith
 
 -- some calls were made, and then one more
 pub called-one_more : (before : Option ℕ) (most : ℕ) (between after : Option ℕ)

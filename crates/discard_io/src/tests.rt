@@ -4,7 +4,7 @@ ghost use Rattle.discard_io.specs.Adapters.{sink_faults};
 
 use super::*;
 use std::alloc::Global;
-use std::io::Write;
+use std::io::{Read, Write};
 use std::sync::Wait;
 use std::test::Fail;
 use std::thread::Threads;
@@ -108,6 +108,23 @@ fn reads_the_standard_input(rt: HostRuntime) {
     assert!(rt; input.read(&mut [0; 16]) == Ok(0));
     let mut text = StdSource::new(b"text".as_slice());
     assert!(rt; reads(rt.alloc(), &mut text, Ok(b"text")));
+    assert!(rt;
+        reads(
+            rt.alloc(),
+            &mut StdSource::new(Broken),
+            Err(ReadEnd::Failed)
+        )
+    );
+}
+
+// A reader whose reads fail.
+#[derive(Drop)]
+struct Broken;
+
+impl Read for Broken {
+    fn read(&mut self, _buf: &mut [u8]) -> io::Result<usize> {
+        Err(io::Error::from(io::ErrorKind::Other))
+    }
 }
 
 #[test]

@@ -7,7 +7,7 @@ ghost use Rattle.discard_io.specs.WriteAll.{WritesNothing};
 use crate::sink::Sink;
 use crate::status::Failed;
 
-/// Writes all of `bytes`, with at most one write a byte; without a write, and Ok, where `bytes` is empty.
+/// Writes all of `bytes`, with at most one write a byte. Where `bytes` is empty it makes no write and answers Ok.
 ///
 /// `Failed` comes only where the sink's count of faults rose in this call, and then a front of `bytes` was written.
 pub fn write_all<O: Sink>(sink: &mut O, bytes: &[u8]) -> Result<(), Failed>

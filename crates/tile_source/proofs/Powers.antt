@@ -1,6 +1,7 @@
 use Rattle.std.proofs.Common.{◌≡◌, ℕ, ◌+◌, ◌*◌, ◌^◌, ◌≤◌, ◌%◌, arith, ◌∙◌, ap, sym, lit<}
 use Rattle.std.proofs.lemmas.Nat.{pow-add, mul-pow, one_shl}
 use Rattle.std.proofs.Math.Nat.{pow-le-pow_right}
+use Rattle.tile_source.specs.declared.limits.TheConstants.{MOST_MAXVAL}
 
 pub square_of_side : (z : ℕ) → 2 ^ (2 * z) ≡ 2 ^ z * 2 ^ z
 square_of_side z =
@@ -18,7 +19,7 @@ pub four_to_low : (z : ℕ) → z ≤ 6 → 4 ^ z ≤ 4096
 four_to_low z h = pow-le-pow_right (lit< tt) h
 
 -- a bound on the sum of a square, by the zoom
-pub bounded : (all n z : ℕ) → n ≡ 2 ^ z → all ≤ 255 * n * n → all ≤ 255 * 4 ^ z
+pub bounded : (all n z : ℕ) → n ≡ 2 ^ z → all ≤ MOST_MAXVAL * n * n → all ≤ MOST_MAXVAL * 4 ^ z
 bounded all n z scale h =
     let area : 4 ^ z ≡ n * n = four_to z ∙ ap (λ m. m * m) (sym scale) in
     rw area (omega arith)

@@ -3,7 +3,7 @@
 
 ghost use Rattle.std.specs.Prelude.{◌≡◌, ℕ, ◌+◌, ◌*◌, ◌-◌, ◌^◌, ◌<◌, ◌≤◌, min, length, sum, take, drop, slice_index};
 ghost use Rattle.tile_source.specs.Image.{sample, sum_below, mean, pixel};
-ghost use Rattle.tile_source.specs.declared.limits.TheConstants.{MOST_MAXVAL};
+ghost use Rattle.tile_source.specs.declared.limits.TheConstants.{MOST_MAXVAL, MOST_ZOOM, MOST_TILE_SIDE};
 
 use crate::image::{Image, Sample};
 
@@ -21,7 +21,8 @@ pub(crate) fn covered(from: usize, count: usize, end: usize) -> usize
 fn add_samples(sums: &mut [u16], line: &[Sample])
     requires fits { length line.now ≤ length sums.old }
     requires room { (i : ℕ) → i < length sums.old → slice_index sums.old i < 2 ^ 15 }
-    ensures value { (i : ℕ) → i < length line.now → slice_index sums.new i ≡ slice_index sums.old i + slice_index line.now i }
+    ensures value { (i : ℕ) → i < length line.now
+        → slice_index sums.new i ≡ slice_index sums.old i + slice_index line.now i }
     ensures rest { (i : ℕ) → length line.now ≤ i → slice_index sums.new i ≡ slice_index sums.old i }
     ensures bound { (i : ℕ) → slice_index sums.new i ≤ slice_index sums.old i + MOST_MAXVAL }
 {
@@ -67,7 +68,7 @@ fn total<const N: usize>(part: &[u16]) -> u32
 // The mean of the samples of a square whose sum is given, a half rounded up.
 #[tactic(auto, using(crate::proofs::Powers::square_of_side, crate::proofs::Powers::four_to))]
 fn rounded(sum: u32, z: u32) -> u8
-    requires zoom { z ≤ 6 }
+    requires zoom { z ≤ MOST_ZOOM }
     requires bounded { sum ≤ MOST_MAXVAL * 4 ^ z }
     ensures { result ≡ mean z sum }
 {
@@ -76,13 +77,14 @@ fn rounded(sum: u32, z: u32) -> u8
 
 // Writes the mean of each pixel's columns.
 fn write_means<const N: usize>(sums: &[u16], z: u32, row: &mut [u8])
-    requires zoom { z ≤ 6 }
+    requires zoom { z ≤ MOST_ZOOM }
     requires scale { N ≡ 2 ^ z }
     requires few { N ≤ 64 }
     requires sized { length sums.now ≡ length row.old * N }
-    requires narrow { length row.old ≤ 256 }
+    requires narrow { length row.old ≤ MOST_TILE_SIDE }
     requires low { (i : ℕ) → i < length sums.now → slice_index sums.now i ≤ MOST_MAXVAL * N }
-    ensures { (k : ℕ) → k < length row.old → slice_index row.new k ≡ mean z (sum (take N (drop (k * N) sums.now))) }
+    ensures { (k : ℕ) → k < length row.old
+        → slice_index row.new k ≡ mean z (sum (take N (drop (k * N) sums.now))) }
 {
     for (k, place) in row.iter_mut().enumerate() {
         *place = rounded(total::<N>(&sums[k * N..(k + 1) * N]), z);
@@ -98,16 +100,17 @@ fn average_strip<const N: usize>(
     sums: &mut [u16],
     strip: &mut [u8],
 )
-    requires zoom { z ≤ 6 }
+    requires zoom { z ≤ MOST_ZOOM }
     requires scale { N ≡ 2 ^ z }
     requires few { N ≤ 64 }
     requires some { 0 < N }
     requires room { length sums.old ≡ STRIP }
     requires x_fits { x < 2 ^ 32 }
     requires y_fits { y < 2 ^ 31 }
-    requires narrow { length strip.old ≤ 256 }
+    requires narrow { length strip.old ≤ MOST_TILE_SIDE }
     requires fits { length strip.old * N ≤ STRIP }
-    ensures { (k : ℕ) → k < length strip.old → slice_index strip.new k ≡ pixel image.now z (x + k) y }
+    ensures { (k : ℕ) → k < length strip.old
+        → slice_index strip.new k ≡ pixel image.now z (x + k) y }
 {
     let wide = strip.len() * N;
     let columns = covered(x * N, wide, image.width() as usize);
@@ -130,14 +133,14 @@ pub(crate) fn average_row<const N: usize>(
     sums: &mut [u16],
     row: &mut [u8],
 )
-    requires zoom { z ≤ 6 }
+    requires zoom { z ≤ MOST_ZOOM }
     requires scale { N ≡ 2 ^ z }
     requires few { N ≤ 64 }
     requires some { 0 < N }
     requires room { length sums.old ≡ STRIP }
     requires x_fits { x < 2 ^ 31 }
     requires y_fits { y < 2 ^ 31 }
-    requires narrow { length row.old ≤ 256 }
+    requires narrow { length row.old ≤ MOST_TILE_SIDE }
     ensures { (k : ℕ) → k < length row.old → slice_index row.new k ≡ pixel image.now z (x + k) y }
 {
     let mut begin = 0;

@@ -3,6 +3,7 @@
 
 ghost use Rattle.std.specs.Prelude.{◌≡◌, ℕ, ◌+◌, ◌*◌, ◌^◌, ◌<◌, ◌≤◌, length, slice_index};
 ghost use Rattle.tile_source.specs.Image.{sample, tile};
+ghost use Rattle.tile_source.specs.declared.limits.TheConstants.{MOST_ZOOM, LAST_TILE, MOST_TILE_SIDE};
 
 use crate::columns::{STRIP, average_row, covered};
 use crate::image::Image;
@@ -10,7 +11,7 @@ use crate::image::Image;
 // One row of a tile at zoom 0, where a pixel is a sample.
 fn copy_row(image: &Image, x: usize, y: usize, row: &mut [u8])
     requires x_fits { x < 2 ^ 31 }
-    requires narrow { length row.old ≤ 256 }
+    requires narrow { length row.old ≤ MOST_TILE_SIDE }
     ensures { (k : ℕ) → k < length row.old → slice_index row.new k ≡ sample image.now (x + k) y }
 {
     let columns = if y < image.height() as usize {
@@ -33,13 +34,13 @@ fn average_tile<const N: usize>(
     side: usize,
     out: &mut [u8],
 )
-    requires zoom { z ≤ 6 }
+    requires zoom { z ≤ MOST_ZOOM }
     requires scale { N ≡ 2 ^ z }
     requires few { N ≤ 64 }
     requires some { 0 < N }
-    requires x_fits { x ≤ 65535 }
-    requires y_fits { y ≤ 65535 }
-    requires side_fits { side ≤ 256 }
+    requires x_fits { x ≤ LAST_TILE }
+    requires y_fits { y ≤ LAST_TILE }
+    requires side_fits { side ≤ MOST_TILE_SIDE }
     requires sized { length out.old ≡ side * side }
     ensures { out.new ≡ tile image.now z x y side }
 {
@@ -52,9 +53,9 @@ fn average_tile<const N: usize>(
 
 // A tile at zoom 0.
 fn copy_tile(image: &Image, x: usize, y: usize, side: usize, out: &mut [u8])
-    requires x_fits { x ≤ 65535 }
-    requires y_fits { y ≤ 65535 }
-    requires side_fits { side ≤ 256 }
+    requires x_fits { x ≤ LAST_TILE }
+    requires y_fits { y ≤ LAST_TILE }
+    requires side_fits { side ≤ MOST_TILE_SIDE }
     requires sized { length out.old ≡ side * side }
     ensures { out.new ≡ tile image.now 0 x y side }
 {
@@ -71,10 +72,10 @@ fn copy_tile(image: &Image, x: usize, y: usize, side: usize, out: &mut [u8])
 /// Fills `out` with the tile at column `x` and row `y` of the tiles of zoom `z`.
 #[inline(never)]
 pub(crate) fn fill_tile(image: &Image, z: u32, x: usize, y: usize, side: usize, out: &mut [u8])
-    requires zoom { z ≤ 6 }
-    requires x_fits { x ≤ 65535 }
-    requires y_fits { y ≤ 65535 }
-    requires side_fits { side ≤ 256 }
+    requires zoom { z ≤ MOST_ZOOM }
+    requires x_fits { x ≤ LAST_TILE }
+    requires y_fits { y ≤ LAST_TILE }
+    requires side_fits { side ≤ MOST_TILE_SIDE }
     requires sized { length out.old ≡ side * side }
     ensures { out.new ≡ tile image.now z x y side }
 {

@@ -1,0 +1,212 @@
+"""Random runs from a seed, the same on every machine. Each gives the words, the standard input and the files."""
+
+import random
+
+LAST_MOMENT = 1 << 62
+LAST_NUMBER = (1 << 64) - 1
+
+
+def bytes_of(draw, count):
+    return draw.getrandbits(8 * count).to_bytes(count, "little") if count else b""
+
+
+def script(seed):
+    """A lawful script, of which most commands hit segments that were granted."""
+    draw = random.Random(f"script {seed}")
+    return [b"replay"], text_of(draw, commands(draw)), {}
+
+
+def long_script(seed):
+    """A lawful script of 4,000 commands."""
+    draw = random.Random(f"long script {seed}")
+    lines = commands(draw, 3999)
+    return [b"replay"], text_of(draw, lines), {}
+
+
+def broken_script(seed):
+    """A script in which a few words, lines or bytes were changed."""
+    draw = random.Random(f"broken script {seed}")
+    lines = commands(draw)
+    for _ in range(draw.choice((1, 1, 1, 2, 3))):
+        break_line(draw, lines)
+    text = bytearray(text_of(draw, lines))
+    if draw.random() < 0.2:
+        text[draw.randrange(len(text))] = draw.choice(b" \n\r\t#0-x\x00\xff\xa0")
+    return [b"replay"], bytes(text), {}
+
+
+class Drawn:
+    """A segment of a script that is drawn: how many pages it has, and which may be held."""
+
+    def __init__(self, pages):
+        self.pages = pages
+        self.held = set(range(pages))
+
+    def run(self, draw, is_held):
+        """A run of pages that are held, or free: its first page and its length; any pages where there is none."""
+        pages = sorted(self.held if is_held else set(range(self.pages)) - self.held)
+        if not pages or draw.random() < 0.1:
+            first = draw.randrange(self.pages)
+            return first, draw.randrange(1, self.pages - first + 1) + (draw.random() < 0.2)
+        first = last = draw.choice((pages[0], draw.choice(pages)))
+        while last + 1 in pages and draw.random() < 0.9:
+            last += 1
+        return first, last - first + 1
+
+
+KINDS = ("grant", "lock", "lock", "unlock", "unlock", "unlock", "write", "read", "try")
+
+
+def commands(draw, count=None):
+    segments = []
+    lines = [grant(draw, segments)]
+    now = 1
+    for _ in range(count or draw.choice((3, 10, 30, 100, 300))):
+        now += draw.choice((0, 0, 1, 5))
+        kind = draw.choice(KINDS)
+        if kind == "grant" and len(segments) < 1000 and draw.random() < 60 / len(segments):
+            lines.append(grant(draw, segments))
+        elif draw.random() < 0.03:
+            lines.append(["try", str(draw.choice((0, len(segments) + 1, LAST_NUMBER))), str(now)])
+        else:
+            number = max(1, len(segments) - int(draw.expovariate(0.3)))
+            lines.append([kind if kind != "grant" else "try", str(number)])
+            lines[-1] += values(draw, lines[-1][0], segments[number - 1], draw.choice((now, now, now, now, draw.randrange(1, 50), 1, LAST_MOMENT)))
+    return lines
+
+
+def values(draw, kind, segment, moment):
+    """The words of a command after the segment's number, of which most can be done."""
+    if kind == "try":
+        return [str(moment)]
+    if kind in ("lock", "unlock"):
+        first, count = segment.run(draw, kind == "unlock")
+        pages = set(range(first, first + count))
+        if kind == "lock":
+            segment.held |= pages & set(range(segment.pages))
+            return [str(first), str(count)]
+        segment.held -= pages
+        return [str(first), str(count), str(moment)]
+    first, pages = segment.run(draw, True)
+    count = 4096 if draw.random() < 0.02 else draw.choice((1, 2, 3, 17, 64))
+    place = first * 4096 + draw.choice((0, 4095, pages * 4096 - count, draw.randrange(4096)))
+    place = min(max(0, place), 2097151)
+    if kind == "read":
+        return [str(place), str(count)]
+    data = bytes_of(draw, count).hex()
+    return [str(place), data.upper() if draw.random() < 0.2 else data]
+
+
+def grant(draw, segments):
+    segments.append(Drawn(draw.choice((1, 1, 2, 3, 4, 9, 33, 512))))
+    return ["grant", str(draw.randrange(1, 65)), str(segments[-1].pages), str(draw.randrange(1, 9))]
+
+
+def text_of(draw, lines):
+    ends = draw.choice(("\n", "\n", "\r\n", " \n", "\t\r\r\n"))
+    spaces = draw.choice((" ", " ", "\t", " \t ", "  "))
+    parts = []
+    for line in lines:
+        if draw.random() < 0.05:
+            parts.append(draw.choice(("# a comment", "", " \t", "\r", "#", "  #grant 1 1 1")) + ends)
+        parts.append(draw.choice(("", "", spaces)) + spaces.join(line) + ends)
+    text = "".join(parts)
+    return (text.rstrip() if draw.random() < 0.2 else text).encode()
+
+
+BAD_NUMBERS = ("", "00", "01", "-1", "+1", "1.", "0x1", "1e3", "a", "18446744073709551616", "4611686018427387905", "513", "512", "65", "64", "0", "4097", "2097152", "9" * 400, "#", "1#")
+
+
+def break_line(draw, lines):
+    at = draw.randrange(len(lines))
+    line = list(lines[at])
+    kind = draw.randrange(8)
+    word = draw.randrange(len(line))
+    if kind == 0:
+        del line[word]
+    elif kind == 1:
+        line.insert(word + 1, "1")
+    elif kind in (2, 3, 4):
+        line[word] = draw.choice(BAD_NUMBERS)
+    elif kind == 5:
+        line[0] = draw.choice(("Grant", "grants", "gran", "back", "reduce", "granted", "x", "lock", "try", "read", "write"))
+    elif kind == 6:
+        line.reverse()
+    else:
+        line[-1] += draw.choice(("0", "g", "ab", "\x0b"))
+    lines[at] = line or ["#"]
+
+
+POOL = (
+    "replay", "tile", "serve", "gen", "a.pgm", "a.pgm", "a.pgm", "b.pgm", "--x", "", "-", "--", "--", "0", "0", "1", "6", "7", "00", "65535",
+    "65536", "--side", "--side", "--side=64", "--side=128", "--side=256", "--side=", "--side=65", "--side=64=", "-side", "--sid", "--sidex",
+    "64", "128", "256", "100", "--limit", "--limit=4", "--help", "-h", "18446744073709551616", "\u00e9",
+)  # fmt: skip
+
+
+def words(seed):
+    """Words of the command line, near lawful ones, with a small image at hand."""
+    draw = random.Random(f"words {seed}")
+    if draw.random() < 0.15:
+        given = [draw.choice(POOL) for _ in range(draw.randrange(8))]
+    elif draw.random() < 0.2:
+        given = ["replay"] + [draw.choice(POOL) for _ in range(draw.randrange(3))]
+    else:
+        given = ["tile", "a.pgm", draw.choice("0123456"), draw.choice("001"), draw.choice("001")]
+        for _ in range(draw.randrange(4)):
+            kind, at = draw.randrange(5), draw.randrange(len(given) + 1)
+            if kind == 0 and given:
+                given.pop(at - 1)
+            elif kind == 1:
+                given.insert(at, draw.choice(POOL))
+            elif kind == 2 and at < len(given):
+                given[at] = draw.choice(POOL)
+            elif kind == 3:
+                given[at:at] = ["--side", draw.choice(("64", "128", "256"))]
+            else:
+                given.insert(at, "--")
+    files = {b"a.pgm": b"P5 2 2 9\n\x01\x02\x03\x0a", b"--x": b"P5 1 1 255\n\x07", b"-": b"P5 1 1 1\n\x01"}
+    return [word.encode() for word in given], b"grant 1 1 1\n", files
+
+
+def image(seed):
+    """An image of random sides, with a header in a form of its own, and one of its tiles."""
+    draw = random.Random(f"image {seed}")
+    width, height = (draw.choice((1, 2, 3, 7, 8, 63, 64, 65, 100, 130)) for _ in range(2))
+    maxval = draw.choice((1, 2, 9, 100, 254, 255, 255))
+    data = header(draw, width, height, maxval) + bytes_of(draw, width * height) + bytes_of(draw, draw.choice((0, 0, 1, 50)))
+    z = draw.randrange(7)
+    side = draw.choice((64, 64, 64, 128, 256))
+    far = draw.random() < 0.05
+    x, y = (65535 if far else draw.randrange(max(1, (edge >> z) // side + 1)) for edge in (width, height))
+    order = [b"tile", b"a.pgm", b"%d" % z, b"%d" % x, b"%d" % y]
+    return order + ([b"--side=%d" % side] if side != 256 or draw.random() < 0.5 else []), b"", {b"a.pgm": data}
+
+
+def header(draw, width, height, maxval):
+    def white():
+        return "".join(draw.choice((" ", "\n", "\t", "\r", "\r\n", "# a comment\n", "#\r", "#5 6\n")) for _ in range(draw.choice((1, 1, 1, 2, 4))))
+
+    def digits(value):
+        return "0" * draw.choice((0, 0, 0, 1, 400)) + str(value)
+
+    return ("P5" + white() + digits(width) + white() + digits(height) + white() + digits(maxval) + draw.choice(" \n\r\t")).encode()
+
+
+def broken_image(seed):
+    """A small image in whose header a few bytes were changed."""
+    draw = random.Random(f"broken image {seed}")
+    width, height = draw.randrange(1, 5), draw.randrange(1, 5)
+    data = bytearray(header(draw, width, height, draw.choice((1, 255))) + bytes_of(draw, width * height))
+    if draw.random() < 0.2:
+        del data[draw.randrange(len(data)) :]
+    for _ in range(draw.choice((1, 1, 2, 3))):
+        kind, at = draw.randrange(3), draw.randrange(min(len(data), 30) + 1)
+        odd = draw.choice(b"0123456789 \n\r\t#P\x00\x0b\xff-+.a")
+        if kind == 0:
+            data[at : at + 1] = b""
+        elif kind == 1:
+            data[at:at] = bytes((odd,))
+        else:
+            data[at : at + 1] = bytes((odd,))
+    return [b"tile", b"a.pgm", b"0", b"0", b"0", b"--side=64"], b"", {b"a.pgm": bytes(data)}
