@@ -1,0 +1,7 @@
+pub mod Keyed
+pub mod Best
+pub mod Work
+pub mod Placed
+pub mod Steps
+pub mod Gained
+pub mod Turned

@@ -1,0 +1,9 @@
+#![tactic(auto)]
+//! The live segments of a manager in the order of their known use, and their reduction to a limit of pages.
+
+mod least;
+mod order;
+mod reduction;
+
+pub use order::Order;
+pub use reduction::Reduced;
