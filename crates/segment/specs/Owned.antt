@@ -1,7 +1,7 @@
 -- What is seen of an owner's side, and how its calls change that.
 use Rattle.std.specs.Prelude.{◌≡◌, ◌≤◌, ℕ, ◌+◌, ◌*◌, Bool, true, false, List, [], length, Option, Some, None, MatchBool, max}
 use Rattle.units.specs.declared.TheConstants.{PAGE, LAST_MOMENT, MOST_PAGES}
-use Rattle.block_pool.specs.Block.{IsZero}
+use Rattle.block_pool.specs.Block.{page_count, IsZero}
 use Rattle.segment_rule.specs.declared.view.Stage.{Stage}
 use Rattle.segment_rule.specs.declared.view.Stage.TheVariants as stage
 use Rattle.segment_rule.specs.declared.view.OwnerView.{OwnerView}
@@ -20,6 +20,10 @@ pub record Owned : Type 0 where
   pub left : List ℕ
   pub bytes : List ℕ
   pub steps : ℕ
+
+-- a new side, which holds this block
+abbrev pub new_owner : ℕ → List ℕ → Owned
+new_owner id block = record { id = id; pages = page_count block; phase = Held; last = 0; left = []; bytes = block; steps = 0 }
 
 -- the bytes of the block in its hand, if there is one
 abbrev pub bytes_of : Option (List ℕ) → List ℕ
@@ -73,7 +77,7 @@ pub record HasPages (side : Owned) : Type 0 where
   pub least : 1 ≤ side.pages
   pub most : side.pages ≤ MOST_PAGES
 
--- a side as it is granted: it holds a segment of so many pages, all zero
+-- a side as it is granted: it holds a segment of this many pages, all zero
 pub record IsGranted (count : ℕ) (side : Owned) : Type 0 where
   pub held : side.phase ≡ Held
   pub sized : side.pages ≡ count

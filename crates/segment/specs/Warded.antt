@@ -1,5 +1,5 @@
 -- What is seen of a warden's side, and how a purge try changes that.
-use Rattle.std.specs.Prelude.{◌≡◌, ◌≢◌, ◌≤◌, ℕ, ◌*◌, Bool, true, List, [], ◌∷◌, length, Option, Some, IfSome}
+use Rattle.std.specs.Prelude.{◌≡◌, ◌≢◌, ◌≤◌, ℕ, ◌*◌, Bool, false, true, List, [], ◌∷◌, length, Option, Some, IfSome}
 use Rattle.units.specs.declared.TheConstants.{PAGE, LAST_MOMENT}
 use Rattle.segment_rule.specs.declared.view.WardenView.{WardenView}
 use Rattle.segment_rule.specs.Views.{known_use, expected_word, IsTimely}
@@ -13,6 +13,10 @@ pub record Warded : Type 0 where
   pub pages : ℕ
   pub tries : List (ℕ × ℕ)
   pub taken : Bool
+
+-- a new side, which has tried nothing
+abbrev pub new_warden : ℕ → ℕ → Warded
+new_warden id pages = record { id = id; pages = pages; tries = []; taken = false }
 
 -- each word that these tries found is timely: it tells no time before one that was found earlier
 abbrev pub IsRising : List (ℕ × ℕ) → Type 0

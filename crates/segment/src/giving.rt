@@ -13,9 +13,9 @@ pub enum GiveUp {
 }
 
 impl OwnerSide {
-    /// Gives the segment up. From Held its block comes back, with no step. From Idle one lock step is
-    /// made: the block comes back, or the side is gone exactly where that step found it purged. From
-    /// Gone no step is made.
+    /// Gives the segment up. From Held its block comes back, with no step. From Idle one lock step
+    /// is made: the block comes back, or the side is gone exactly where that step found it purged.
+    /// From Gone no step is made.
     pub fn give_up(mut self) -> GiveUp
         ensures { GivesUp self.phase self result }
     {

@@ -27,7 +27,7 @@ pub trait Granter {
 
     ghost standing: { Self → Standing };
 
-    /// Grants a client a segment of so many pages, held and all zero, under a number that is greater
+    /// Grants a client a segment of `pages` pages, held and all zero, under a number that is greater
     /// than each one before.
     fn grant<H: Threads + Wait + Sync>(
         &mut self,

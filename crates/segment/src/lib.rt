@@ -1,6 +1,7 @@
 #![tactic(auto)]
-//! A segment of soft memory and its two sides: its owner locks, unlocks and writes its block, and its
-//! warden may purge it while it is idle. Each side may be in a thread of its own, and none waits.
+//! A segment of soft memory and its two sides: its owner locks, unlocks and writes its block, and
+//! its warden may purge it while it is idle. Each side may be in a thread of its own, and none
+//! waits.
 
 mod giving;
 mod granter;

@@ -1,6 +1,7 @@
-ghost use Rattle.std.specs.Prelude.{◌≡◌, [], false, IfOk, IfErr};
+ghost use Rattle.std.specs.Prelude.{◌≡◌, IfOk, IfErr};
 ghost use Rattle.block_pool.specs.Block.{page_count};
-ghost use Rattle.segment.specs.declared.owner.Phase.TheVariants.{Held};
+ghost use Rattle.segment.specs.Owned.{new_owner};
+ghost use Rattle.segment.specs.Warded.{new_warden};
 
 use crate::owner::OwnerSide;
 use crate::warden::WardenSide;
@@ -16,8 +17,8 @@ pub struct Unmade {
 /// Makes a segment of this number from a block: its owner's side, which holds the block, and its
 /// warden's side, which has tried nothing.
 pub fn make(alloc: Global, id: u64, block: Block) -> Result<(OwnerSide, WardenSide), Unmade>
-    ensures owner { IfOk result (λ sides. sides.0 ≡ record { id = id; pages = page_count block; phase = Held; last = 0; left = []; bytes = block; steps = 0 }) }
-    ensures warden { IfOk result (λ sides. sides.1 ≡ record { id = id; pages = page_count block; tries = []; taken = false }) }
+    ensures owner { IfOk result (λ sides. sides.0 ≡ new_owner id block) }
+    ensures warden { IfOk result (λ sides. sides.1 ≡ new_warden id (page_count block)) }
     ensures back { IfErr result (λ u. u.block ≡ block) }
 {
     let pages = block.pages();

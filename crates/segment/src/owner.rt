@@ -30,10 +30,10 @@ pub enum Lock {
 
 /// The owner's side of a segment.
 ///
-/// A new side holds. `unlock` makes it idle, and from then on the warden may purge the segment. `lock`
-/// makes it held again, or finds that it was purged: then it is gone, and stays so. Its block is in
-/// its hand while it holds, at the segment's home while it is idle, and is never copied. No call
-/// takes memory, and none waits.
+/// A new side holds. `unlock` makes it idle, and from then on the warden may purge the segment.
+/// `lock` makes it held again, or finds that it was purged: then it is gone, and stays so. Its block
+/// is in its hand while it holds, at the segment's home while it is idle, and is never copied. No
+/// call takes memory, and none waits.
 #[derive(Drop)]
 pub struct OwnerSide {
     seat: OwnerSeat,
@@ -50,7 +50,15 @@ impl Model for OwnerSide {
 
     ghost Value = { Owned };
 
-    ghost view = { λ s. record { id = s.id; pages = s.pages; phase = s.phase; last = s.last; left = s.seat.left; bytes = bytes_of s.block; steps = s.seat.steps } };
+    ghost view = { λ s. record {
+      id = s.id;
+      pages = s.pages;
+      phase = s.phase;
+      last = s.last;
+      left = s.seat.left;
+      bytes = bytes_of s.block;
+      steps = s.seat.steps;
+    } };
 
     ghost invariant = { λ s. IsOwned s.seat s.block s.id s.pages s.phase s.last };
 }
@@ -61,7 +69,15 @@ impl OwnerSide {
     /// A side that holds this block.
     pub(crate) fn held(seat: OwnerSeat, block: Block, id: u64, pages: u32) -> OwnerSide
         requires { IsOwned seat (Some block) id pages Held 0 }
-        ensures { result ≡ record { id = id; pages = pages; phase = Held; last = 0; left = seat.left; bytes = block; steps = seat.steps } }
+        ensures { result ≡ record {
+          id = id;
+          pages = pages;
+          phase = Held;
+          last = 0;
+          left = seat.left;
+          bytes = block;
+          steps = seat.steps;
+        } }
     {
         OwnerSide {
             seat,
@@ -101,9 +117,9 @@ impl OwnerSide {
         self.last
     }
 
-    /// Locks a segment that is not held. From Idle it makes one step: the segment is held with the bytes
-    /// left at the last unlock, or it is gone, exactly where that step found it purged. From Gone it
-    /// makes none.
+    /// Locks a segment that is not held. From Idle it makes one step: the segment is held with the
+    /// bytes left at the last unlock, or it is gone, exactly where that step found it purged. From
+    /// Gone it makes none.
     pub fn lock(&mut self) -> Lock
         requires { self.old.phase ≢ Held }
         ensures { AfterLock self.old.phase result self.old self.new }
@@ -111,8 +127,7 @@ impl OwnerSide {
         if self.phase == Phase::Gone {
             return Lock::Gone;
         }
-        self.block = self.seat.lock(self.last);
-        if self.block.is_some() {
+        if self.seat.lock(self.last, &mut self.block) {
             self.phase = Phase::Held;
             Lock::Held
         } else {
@@ -121,18 +136,15 @@ impl OwnerSide {
         }
     }
 
-    /// Unlocks a segment that is held, by one step, and leaves its bytes. Its stamp is the greater of the
-    /// moment and the last stamp.
+    /// Unlocks a segment that is held, by one step, and leaves its bytes. Its stamp is the greater of
+    /// the moment and the last stamp.
     pub fn unlock(&mut self, now: u64)
         requires held { self.old.phase ≡ Held }
         requires moment { IsMoment now }
         ensures { self.new ≡ after_unlock now self.old }
     {
         let stamp = now.max(self.last);
-        let Some(block) = self.block.take() else {
-            unreachable!()
-        };
-        self.seat.unlock(stamp, block);
+        self.seat.unlock(stamp, &mut self.block);
         self.last = stamp;
         self.phase = Phase::Idle;
     }

@@ -1,12 +1,14 @@
 ghost use Rattle.std.specs.Prelude.{◌≡◌, ◌≢◌, ◌≤◌, false, IfOk};
 ghost use Rattle.segment.specs.declared.owner.Phase.TheVariants.{Held, Gone};
 
-use crate::{GiveUp, Lock, OwnerSide, Phase, Purge, WardenSide, make};
-use block_pool::Pool;
+use crate::{GiveUp, Granter, Lock, OwnerSide, Phase, Purge, WardenSide, make};
+use block_pool::{Block, Pool};
 use std::alloc::Global;
+use std::sync::Wait;
 use std::test::Fail;
 use std::thread;
 use std::thread::Threads;
+use units::NoMemory;
 
 /// The two sides of a new segment with this number and a zero block of so many pages.
 fn new_segment(alloc: Global, id: u64, pages: u32) -> Result<(OwnerSide, WardenSide), Fail>
@@ -95,6 +97,19 @@ fn the_sides_of_one_segment(rt: HostRuntime) -> Result<(), Fail> {
     owner.bytes_mut()[0] = 67;
     owner.unlock(1);
     assert!(rt; whole(owner, 67));
+    Ok(())
+}
+
+#[test]
+fn a_granter_numbers_its_segments(rt: HostRuntime) -> Result<(), Fail> {
+    let mut granter = OneByOne {
+        pool: Pool::new(rt.alloc(), 0)?,
+        grants: 0,
+        returns: 0,
+        greatest: 0,
+    };
+    let side = granter.grant(&rt, rt.alloc(), 1, 1, 1)?;
+    assert!(rt; side.id() == 1 && granter.grants == 1);
     Ok(())
 }
 
@@ -230,4 +245,56 @@ fn both_sides_in_threads_of_their_own(rt: HostRuntime) -> Result<(), Fail> {
     let (_tries, rounds) = race(&rt, owner, warden, 10_000, 1_000_000);
     assert!(rt; rounds.right);
     Ok(())
+}
+
+/// A granter that numbers its segments from 1 and lets their wardens go.
+#[derive(Drop)]
+struct OneByOne {
+    pool: Pool,
+    grants: u64,
+    returns: u64,
+    greatest: u64,
+}
+
+impl Granter for OneByOne {
+    ghost grants = { λ g. g.grants };
+
+    ghost returns = { λ g. g.returns };
+
+    ghost greatest = { λ g. g.greatest };
+
+    ghost Standing = { Unit {0} };
+
+    ghost standing = { λ _. tt };
+
+    fn grant<H: Threads + Wait + Sync>(
+        &mut self,
+        _rt: &H,
+        alloc: Global,
+        _client: u32,
+        pages: u32,
+        _now: u64,
+    ) -> Result<OwnerSide, NoMemory> {
+        let id = self.greatest.checked_add(1).ok_or(NoMemory)?;
+        let block = self.pool.take(alloc, pages)?;
+        let Ok((owner, _warden)) = make(alloc, id, block) else {
+            return Err(NoMemory);
+        };
+        self.greatest = id;
+        self.grants = self.grants.saturating_add(1);
+        Ok(owner)
+    }
+
+    fn give_back<H: Threads + Wait + Sync>(
+        &mut self,
+        _rt: &H,
+        _client: u32,
+        _id: u64,
+        block: Option<Block>,
+    ) {
+        if let Some(block) = block {
+            self.pool.put(block);
+        }
+        self.returns = self.returns.saturating_add(1);
+    }
 }

@@ -20,8 +20,8 @@ pub enum Purge {
 ///
 /// It knows of the segment's use only what its own tries found: none before the first; then the
 /// moment of the latest try where that found the segment held, and else the time that it found. A
-/// try purges the segment exactly where it is idle and was last used at that known use. No call takes
-/// memory, and none waits.
+/// try purges the segment exactly where it is idle and was last used at that known use. No call
+/// takes memory, and none waits.
 #[derive(Drop)]
 pub struct WardenSide {
     seat: WardenSeat,
@@ -36,7 +36,8 @@ impl Model for WardenSide {
 
     ghost Value = { Warded };
 
-    ghost view = { λ s. record { id = s.id; pages = s.pages; tries = s.seat.tries; taken = s.taken } };
+    ghost view = { λ s.
+        record { id = s.id; pages = s.pages; tries = s.seat.tries; taken = s.taken } };
 
     ghost invariant = { λ s. IsWarded s.seat s.id s.pages s.known s.taken };
 }
@@ -70,8 +71,8 @@ impl WardenSide {
         self.pages
     }
 
-    /// The known use of the segment, which changes at each purge try and at nothing else. The times that
-    /// tries found never fall.
+    /// The known use of the segment, which changes at each purge try and at nothing else. The times
+    /// that tries found never fall.
     pub fn known(&self) -> Option<u64>
         ensures known { result ≡ known_use self.now.tries }
         ensures rising { IsRising self.now.tries }
@@ -86,9 +87,9 @@ impl WardenSide {
         self.taken
     }
 
-    /// Tries to purge the segment at a moment by one step, where it was not purged. The block is taken
-    /// exactly where the segment is idle and its last use is the known use. Else the known use becomes the
-    /// moment where the segment is held, and the time of its last use otherwise.
+    /// Tries to purge the segment at a moment by one step, where it was not purged. The block is
+    /// taken exactly where the segment is idle and its last use is the known use. Else the known use
+    /// becomes the moment where the segment is held, and the time of its last use otherwise.
     pub fn try_purge(&mut self, now: u64) -> Purge
         requires free { self.old.taken ≡ false }
         requires moment { IsMoment now }
