@@ -1,9 +1,9 @@
 -- Where a number stands.
-use Rattle.std.proofs.Common.{◌≡◌, ◌≢◌, ℕ, ◌+◌, ◌*◌, ◌<◌, ◌≤◌, ◌==◌, nat_lt, Bool, true, false, not, cond, ◌||◌, List, [], ◌∷◌, length, get_or, map, filter, All, Some, None, unwrap_or, suc, refl, sym, ap, subst, ◌∙◌, arith}
+use Rattle.std.proofs.Common.{◌≡◌, ◌≢◌, ℕ, ◌+◌, ◌*◌, ◌<◌, ◌≤◌, ◌==◌, zero, nat_lt, Bool, true, false, not, cond, ◌||◌, List, [], ◌∷◌, length, get_or, map, filter, All, Some, None, unwrap_or, suc, refl, sym, ap, subst, ◌∙◌, arith}
 use Rattle.std.specs.List.{remove, insert, position, position_or_len}
 use Rattle.std.proofs.lemmas.Bool.{eqb-true, ltb-true, ltb-false}
 use Rattle.std.proofs.lemmas.Bool.Decides.{nat_tests}
-use Rattle.std.proofs.lemmas.List.Elements.{All-head, All-tail, All-cons, All-nil, All-weaker, All-filter}
+use Rattle.std.proofs.lemmas.List.Elements.{All-head, All-tail, All-cons, All-nil, All-weaker, All-filter, All-get_or}
 use Rattle.std.proofs.lemmas.List.Quantifiers.{position-Some}
 use Rattle.std.specs.List.{Contains}
 use Rattle.std.proofs.lemmas.List.{get_or-map, length-map}
@@ -11,9 +11,9 @@ use Rattle.std.proofs.lemmas.List.Elements.{Contains-get_or}
 use Rattle.segment.specs.Warded.{Warded}
 use Rattle.segment.specs.declared.warden.Purge.TheVariants.{Taken, Used}
 use Rattle.discard_book.specs.Live.{has_number}
-use Rattle.machine.specs.Reduction.{Candidate}
+use Rattle.machine.specs.Reduction.{Candidate, use_of}
 use Rattle.lru_reduce.specs.Wards.{Wards, number_of, IsRisingBy, AreLive, segment_of, candidate_of, candidates_of}
-use Rattle.lru_reduce.specs.Calls.{placed, place_above, TriesOne}
+use Rattle.lru_reduce.specs.Calls.{placed, place_above, IsKnownUse, TriesOne}
 use Rattle.lru_reduce.specs.Turns.{WinsAt, LosesAt, stood_as}
 use Rattle.lru_reduce.proofs.Keyed.{remove-but, IsRisingBy-filter}
 
@@ -153,10 +153,36 @@ pub tries_won : (id now place number pages known : ℕ) (block : List ℕ) (old 
 tries_won id now place number pages known block old new ok found won =
     let c = stood_as number pages known in
     let here = stands id place old.sides c (StandsAt-position id place old.sides ok found) won.stood in
-    (there id place old.sides found, record { word = 2 * known; segment = c; stood = here.stood; number = here.number; told = (refl, won.sized); sides = won.sides; spare = won.room })
+    (there id place old.sides found, record { word = 2 * known; segment = c; stood = here.stood; number = here.number; told = (refl, won.sized, won.moment); sides = won.sides; spare = won.room })
 
 pub tries_lost : (id now place known : ℕ) (old new : Wards) → AreLive old.sides → position (λ (w : Warded). w.id == id) old.sides ≡ Some place → LosesAt now place known old new
     → TriesOne id now (Some (Used known)) old new
 tries_lost id now place known old new ok found lost =
     let here = stands id place old.sides lost.at (StandsAt-position id place old.sides ok found) lost.stood in
     (there id place old.sides found, record { word = lost.word; segment = lost.at; stood = here.stood; number = here.number; told = (lost.other, lost.renewed); sides = lost.sides; spare = lost.room })
+
+-- two places with the same number are one
+rising_apart : {X : Type 0} (key : X → ℕ) (xs : List X) (p q : ℕ) (d : X) → IsRisingBy key xs → p < length xs → q < length xs → key (get_or xs p d) ≡ key (get_or xs q d) → p ≡ q
+rising_apart key [] p q d rising inside within same = absurd (omega (arith, inside))
+rising_apart key (x ∷ xs) zero zero d rising inside within same = refl
+rising_apart key (x ∷ xs) zero (suc q) d rising inside within same =
+    let l : key x < key (get_or xs q d) = All-get_or (λ y. key x < key y) xs q d (omega (arith, within)) rising.0 in
+    absurd (omega (arith, l, same))
+rising_apart key (x ∷ xs) (suc p) zero d rising inside within same =
+    let l : key x < key (get_or xs p d) = All-get_or (λ y. key x < key y) xs p d (omega (arith, inside)) rising.0 in
+    absurd (omega (arith, l, same))
+rising_apart key (x ∷ xs) (suc p) (suc q) d rising inside within same =
+    ap suc (rising_apart key xs p q d rising.1 (omega (arith, inside)) (omega (arith, within)) same)
+
+-- the place of a number has its known use
+pub known_is : (id place : ℕ) (sides : List Warded) (here : Warded) → AreLive sides → position (λ (w : Warded). w.id == id) sides ≡ Some place
+    → here ≡ get_or sides place here → IsKnownUse id (use_of (candidate_of here)) sides
+known_is id place sides here ok found is c there number =
+    let at = StandsAt-position id place sides ok found in
+    let i : ℕ = there.0 in
+    let within : i < length sides = rw (length-map sides candidate_of) at there.1 in
+    let inside : place < length sides = at.inside in
+    let same : candidate_of (get_or sides i here) ≡ c = sym (get_or-map candidate_of sides i here c within) ∙ there.2 in
+    let one : (get_or sides i here).id ≡ id = ap (λ (o : Candidate). o.id) same ∙ number in
+    let place_is : i ≡ place = rising_apart number_of sides i place here ok.rising within inside (one ∙ sym (at.number here)) in
+    ap use_of (sym same ∙ ap (λ (n : ℕ). candidate_of (get_or sides n here)) place_is ∙ ap candidate_of (sym is))

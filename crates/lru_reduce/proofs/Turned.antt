@@ -53,6 +53,7 @@ pub record Going (limit now : ℕ) (start : Wards) (book : Log) (pool : Stock) (
   pub live : live log.entries ≡ segments_of wards.sides
   pub total : granted ≡ total_pages wards.sides
   pub spare : length wards.sides + 1 ≤ log.spare
+  pub spent : length wards.sides + book.spare ≡ length start.sides + log.spare
   pub room : wards.spare ≡ start.spare
 
 pub going_first : (limit now pages : ℕ) (start : Wards) (book : Log) (pool : Stock) → live book.entries ≡ segments_of start.sides → pages ≡ total_pages start.sides → length start.sides + 1 ≤ book.spare
@@ -67,6 +68,7 @@ going_first limit now pages start book pool lives total spare = record {
   live = lives;
   total = total;
   spare = spare;
+  spent = refl;
   room = refl;
 }
 
@@ -100,6 +102,7 @@ going_lost limit now place known granted start book pool wards new log filled go
       live = going.live ∙ sym (ap (λ (ws : List Warded). segments_of ws) kept ∙ segments-noted now lost.word lost.at.id wards.sides);
       total = going.total ∙ sym (ap (λ (ws : List Warded). total_pages ws) kept ∙ total-noted now lost.word lost.at.id wards.sides);
       spare = rw long going.spare;
+      spent = rw long going.spent;
       room = lost.room ∙ going.room;
     }
 
@@ -120,6 +123,7 @@ going_won limit now place granted id pages known left block start book pool ward
     let fewer = won.fewer in
     let counted = going.counted in
     let room = going.spare in
+    let spent = going.spent in
     let total = going.total in
     let sum = won.left in
     let longer : length (purged_by going.found ++ e ∷ []) ≡ length (purged_by going.found) + 1 = length-append (purged_by going.found) (e ∷ []) in
@@ -133,6 +137,7 @@ going_won limit now place granted id pages known left block start book pool ward
       live = lives ∙ append-nil (filter (λ (s : ℕ × ℕ). not (id == s.0)) (live log.entries)) ∙ ap (λ (ss : List (ℕ × ℕ)). filter (λ (s : ℕ × ℕ). not (id == s.0)) ss) going.live ∙ sym (ap (λ (ws : List Warded). segments_of ws) kept ∙ segments-but id wards.sides);
       total = omega (arith, paid, total, sum);
       spare = omega (arith, spare, room, fewer);
+      spent = omega (arith, spare, spent, fewer);
       room = won.room ∙ going.room;
     }
 

@@ -2,6 +2,7 @@
 use Rattle.std.specs.Prelude.{◌≡◌, ◌≢◌, ℕ, ◌+◌, ◌*◌, nat_lt, Bool, true, false, if◌then◌else◌, List, [], ◌∷◌, length, Option, Some, None, slice_index_or}
 use Rattle.std.specs.List.{position_or_len, Contains}
 use Rattle.units.specs.declared.TheConstants.{PAGE}
+use Rattle.units.specs.Moment.{IsMoment}
 use Rattle.machine.specs.Reduction.{Candidate, use_of, least}
 use Rattle.segment.specs.Warded.{Warded}
 use Rattle.segment.specs.declared.warden.Purge.{Purge}
@@ -51,10 +52,14 @@ pub record Forgets (id : ℕ) (answer : Bool) (old new : Wards) : Type 0 where
   pub spare : new.spare ≡ old.spare
 
 -- What a purge try at a moment on a segment answers, where it found this word. The block was taken exactly where that is
--- twice the known use; else the answer is the new known use.
+-- twice the known use, and then that is a moment; else the answer is the new known use.
 abbrev pub Answers : ℕ → ℕ → Candidate → Purge → Type 0
-Answers now word c (Taken block) = (word ≡ 2 * use_of c) × (length block ≡ PAGE * c.pages)
+Answers now word c (Taken block) = (word ≡ 2 * use_of c) × (length block ≡ PAGE * c.pages) × IsMoment (use_of c)
 Answers now word c (Used known) = (word ≢ 2 * use_of c) × (known ≡ used_after now word)
+
+-- this is the known use of the segment of this number, where none counts as 0
+abbrev pub IsKnownUse : ℕ → ℕ → List Warded → Type 0
+IsKnownUse id known sides = (c : Candidate) → Contains (candidates_of sides) c → c.id ≡ id → use_of c ≡ known
 
 -- one purge try was made on the segment of this number, as it stood, and found a word
 pub record TriesNumber (id now : ℕ) (answer : Purge) (old new : Wards) : Type 0 where

@@ -1,8 +1,9 @@
-ghost use Rattle.std.specs.Prelude.{◌≡◌, ◌≤◌, ◌<◌, false, [], Some, length, OnOk, OnErr, IsOk, IsOkAnd, IfOk, IfErr, option_map};
+ghost use Rattle.std.specs.Prelude.{◌≡◌, ◌≤◌, ◌<◌, false, [], Some, length, OnOk, OnErr, IsOk, IsOkAnd, IfOk, IfErr, option_map, is_some, IfSome};
 ghost use Rattle.units.specs.Moment.{IsMoment};
+ghost use Rattle.discard_book.specs.Live.{has_number};
 ghost use Rattle.machine.specs.Reduction.{least, use_of};
-ghost use Rattle.lru_reduce.specs.Wards.{candidates_of, IsNew};
-ghost use Rattle.lru_reduce.specs.Calls.{told, AddsSide, TakesLeast, Forgets, TriesOne};
+ghost use Rattle.lru_reduce.specs.Wards.{candidates_of, segments_of, IsNew};
+ghost use Rattle.lru_reduce.specs.Calls.{told, AddsSide, TakesLeast, Forgets, IsKnownUse, TriesOne};
 ghost use Rattle.lru_reduce.specs.Turns.{WinsAt, LosesAt};
 
 use crate::least::{least_at, place_after, place_of, use_of};
@@ -139,6 +140,16 @@ impl Order {
             }
             None => false,
         }
+    }
+
+    /// The known use of a number, where one that is none counts as 0. None exactly where the number is
+    /// not live.
+    pub fn known(&self, id: u64) -> Option<u64>
+        ensures live { is_some result ≡ has_number (segments_of self.now.sides) id }
+        ensures known { IfSome result (λ known. IsKnownUse id known self.now.sides) }
+    {
+        let place = place_of(&self.sides, id)?;
+        Some(use_of(&self.sides[place]))
     }
 
     /// One purge try of a number at a moment. None exactly where the number is not live. After Taken

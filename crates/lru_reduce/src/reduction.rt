@@ -63,6 +63,8 @@ impl Order {
         ensures granted { granted.new ≡ total_pages self.new.sides }
         ensures live { live book.new.entries ≡ segments_of self.new.sides }
         ensures spare { self.new.spare ≡ self.old.spare }
+        ensures fewer { length self.new.sides + result.purges ≡ length self.old.sides }
+        ensures spent { book.new.spare + result.purges + 1 ≡ book.old.spare }
     {
         let before = self.live();
         while let Some(place) = self.due(*granted, limit, now) {
