@@ -6,7 +6,7 @@ use Rattle.std.proofs.lemmas.List.Edits.{length-remove}
 use Rattle.std.proofs.lemmas.List.Elements.{All-filter, All-map, All-weaker}
 use Rattle.std.proofs.lemmas.List.Sums.{sum_by-cons, sum_by-set, sum_by-remove, sum-map}
 use Rattle.units.specs.declared.TheConstants.{PAGE}
-use Rattle.segment_rule.specs.Views.{IsTimely, known_use}
+use Rattle.segment.specs.Tries.{IsTimely, known_use}
 use Rattle.segment.specs.Warded.{Warded}
 use Rattle.machine.specs.Reduction.{Candidate, least}
 use Rattle.lru_reduce.specs.Wards.{AreLive, number_of, candidate_of, candidates_of, total_pages, noted_at, used_after}

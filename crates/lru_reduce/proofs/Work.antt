@@ -2,7 +2,7 @@
 use Rattle.std.proofs.Common.{◌≡◌, ◌≢◌, ℕ, ◌-◌, ◌*◌, ◌/◌, ◌<◌, ◌≤◌, nat_le, cond, List, [], ◌∷◌, inl, inr, unwrap_or, arith}
 use Rattle.std.proofs.lemmas.Bool.{cases_eq}
 use Rattle.std.proofs.lemmas.Bool.Decides.{nat_tests}
-use Rattle.segment_rule.specs.Views.{known_use, FoundBy, IsTimely}
+use Rattle.segment.specs.Tries.{known_use, FoundBy, IsTimely}
 use Rattle.lru_reduce.specs.Measure.{guesses}
 
 -- the known use after these tries, 0 for none

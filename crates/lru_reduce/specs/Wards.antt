@@ -1,6 +1,6 @@
 -- What is seen of an order: its live wardens, and what they say of their segments.
 use Rattle.std.specs.Prelude.{◌≡◌, ◌≢◌, ℕ, ◌*◌, ◌/◌, ◌==◌, ◌<◌, false, not, if◌then◌else◌, List, [], ◌∷◌, map, filter, sum, All}
-use Rattle.segment_rule.specs.Views.{known_use}
+use Rattle.segment.specs.Tries.{known_use}
 use Rattle.segment.specs.Warded.{Warded}
 use Rattle.machine.specs.Reduction.{Candidate, use_of}
 

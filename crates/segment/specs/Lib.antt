@@ -2,3 +2,4 @@ pub mod Owned
 pub mod Warded
 pub mod Ends
 pub mod Lending
+pub mod Tries

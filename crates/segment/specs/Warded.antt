@@ -2,7 +2,7 @@
 use Rattle.std.specs.Prelude.{◌≡◌, ◌≢◌, ◌≤◌, ℕ, ◌*◌, Bool, false, true, List, [], ◌∷◌, length, Option, Some, IfSome}
 use Rattle.units.specs.declared.TheConstants.{PAGE, LAST_MOMENT}
 use Rattle.segment_rule.specs.declared.view.WardenView.{WardenView}
-use Rattle.segment_rule.specs.Views.{known_use, expected_word, IsTimely}
+use Rattle.segment.specs.Tries.{known_use, expected_word, IsTimely}
 use Rattle.segment.specs.declared.warden.Purge.{Purge}
 use Rattle.segment.specs.declared.warden.Purge.TheVariants.{Taken, Used}
 

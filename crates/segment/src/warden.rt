@@ -1,6 +1,6 @@
 ghost use Rattle.std.specs.Prelude.{◌≡◌, false, None};
 ghost use Rattle.units.specs.Moment.{IsMoment};
-ghost use Rattle.segment_rule.specs.Views.{known_use};
+ghost use Rattle.segment.specs.Tries.{known_use};
 ghost use Rattle.segment.specs.Warded.{Warded, IsWarded, IsRising, AfterTry};
 
 use block_pool::Block;
