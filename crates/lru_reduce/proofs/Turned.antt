@@ -165,7 +165,7 @@ less_where_lost limit now place known wards new turn lost = lost.less (due_is li
 -- The end
 
 -- all pass
-filter_all : (segments : List (ℕ × ℕ)) → filter (λ (s : ℕ × ℕ). true) segments ≡ segments
+pub filter_all : (segments : List (ℕ × ℕ)) → filter (λ (s : ℕ × ℕ). true) segments ≡ segments
 filter_all [] = refl
 filter_all (s ∷ segments) = ap (λ more. s ∷ more) (filter_all segments)
 
