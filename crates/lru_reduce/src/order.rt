@@ -176,7 +176,8 @@ impl Order {
     pub(crate) fn try_at(&mut self, place: usize, now: u64) -> Result<Won, u64>
         requires inside { place < length self.old.sides }
         requires moment { IsMoment now }
-        ensures won { IfOk result (λ w. WinsAt now place w.id w.pages w.known w.block self.old self.new) }
+        ensures won { IfOk result (λ w.
+            WinsAt now place w.id w.pages w.known w.block self.old self.new) }
         ensures lost { IfErr result (λ known. LosesAt now place known self.old self.new) }
     {
         let side = &mut self.sides[place];

@@ -77,7 +77,8 @@ impl Granted {
 }
 
 /// Whether reductions answer as they should. Each segment has one page and was left at its stamp. A reduction has its
-/// limit and its moment, and then its answer: the pages, the least known use and the purges. Last comes the least segment, with its known use.
+/// limit and its moment, and then its answer: the pages, the least known use and the purges. Last comes the least
+/// segment, with its known use.
 fn worked(
     alloc: Global,
     stamps: &[u64],

@@ -1,7 +1,4 @@
-use Rattle.std.proofs.Common.{◌≡◌, ◌==◌, sym, subst, Some, ◌∙◌}
-use Rattle.std.specs.List.{position}
-use Rattle.segment.specs.Warded.{Warded}
-use Rattle.lru_reduce.specs.Wards.{Wards}
+use Rattle.std.proofs.Common.{sym}
 use Rattle.lru_reduce.proofs.Placed.{there, not_there, known_is}
 use Rattle.lru_reduce.proofs.order.Order.known.Goals as goal
 
