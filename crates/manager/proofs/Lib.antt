@@ -3,3 +3,4 @@ pub mod LiveSides
 pub mod AgreesStays
 pub mod Rooms
 pub mod Entering
+pub mod Removing

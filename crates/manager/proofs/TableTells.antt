@@ -61,7 +61,7 @@ or_no : (a b : Bool) → b ≡ false → (a || b) ≡ a
 or_no true b e = refl
 or_no false b e = e
 
-granted_on : (client id : ℕ) (entries later : List Entry) → is_granted_to client id later ≡ false → is_granted_to client id (entries ++ later) ≡ is_granted_to client id entries
+pub granted_on : (client id : ℕ) (entries later : List Entry) → is_granted_to client id later ≡ false → is_granted_to client id (entries ++ later) ≡ is_granted_to client id entries
 granted_on client id entries later e = list_any-append (grants_to client id) entries later ∙ or_no _ _ e
 
 back_on : (id : ℕ) (entries later : List Entry) → was_given_back id later ≡ false → was_given_back id (entries ++ later) ≡ was_given_back id entries
