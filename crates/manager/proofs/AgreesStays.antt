@@ -1,19 +1,19 @@
 -- Each step of a manager keeps what it has beside its book in agreement with it.
-use Rattle.std.proofs.Common.{◌≡◌, ℕ, ◌+◌, ◌-◌, ◌*◌, ◌<◌, ◌≤◌, ◌==◌, Bool, true, false, not, cond, List, [], ◌∷◌, ◌++◌, length, set, map, filter, Option, Some, refl, sym, ap, ap₂, subst, ◌∙◌, arith, length-append, append_assoc}
+use Rattle.std.proofs.Common.{◌≡◌, ℕ, ◌+◌, ◌-◌, ◌*◌, ◌≤◌, ◌==◌, Bool, true, false, not, cond, List, [], ◌∷◌, ◌++◌, length, set, map, filter, Option, Some, refl, sym, ap, subst, ◌∙◌, arith, length-append, append_assoc}
 use Rattle.std.proofs.lemmas.Bool.Decides.{nat_tests}
 use Rattle.std.proofs.lemmas.List.{append-nil, map-append, length-map, length-set}
 use Rattle.segment.specs.Warded.{Warded, new_warden}
 use Rattle.segment.specs.declared.warden.Purge.TheVariants.{Taken, Used}
 use Rattle.machine.specs.Reduction.{Candidate, use_of, purged_by, tries}
 use Rattle.block_pool.specs.Stock.{Stock}
-use Rattle.discard_book.specs.Live.{live, has_number, grants, live_after, AreDrawn}
+use Rattle.discard_book.specs.Live.{live, has_number, grants, AreDrawn}
 use Rattle.discard_book.specs.Log.{Log, AddsEntry}
 use Rattle.discard_book.specs.declared.entry.Entry.{Entry}
 use Rattle.discard_book.specs.declared.entry.Entry.TheVariants.{Grant, Reduced, Purge, Back}
 use Rattle.lru_reduce.specs.Wards.{Wards, candidates_of, segment_of, segments_of, total_pages, without_ward, noted_at}
-use Rattle.lru_reduce.specs.Calls.{AddsSide, Forgets, TriesOne, placed}
+use Rattle.lru_reduce.specs.Calls.{AddsSide, Forgets, TriesOne}
 use Rattle.lru_reduce.specs.Reducing.{ReducesTo, purge_of}
-use Rattle.manager.specs.Keeping.{Agrees, Tells}
+use Rattle.manager.specs.Keeping.{Agrees}
 use Rattle.manager.proofs.TableTells.{tells_quiet, purge_quiet, reduction_quiet, tells_grant, tells_back}
 use Rattle.manager.proofs.LiveSides.{segments_without, fewer_without, segments_noted, last_of, number_within}
 

@@ -1,12 +1,11 @@
 -- A new segment of a client.
-use Rattle.std.proofs.Common.{◌≡◌, ℕ, ◌+◌, List, [], ◌∷◌, ◌++◌, refl, sym, ap, subst, ◌∙◌}
+use Rattle.std.proofs.Common.{◌≡◌, ℕ, ◌+◌, List, [], ◌∷◌, ◌++◌, refl}
 use Rattle.segment.specs.Owned.{Owned, new_owner}
 use Rattle.segment.specs.Warded.{Warded, new_warden}
 use Rattle.block_pool.specs.Block.{page_count, IsZero}
 use Rattle.block_pool.specs.Stock.{Stock, after_take}
 use Rattle.discard_book.specs.Live.{live, grants, AreDrawn}
 use Rattle.discard_book.specs.Log.{Log, AddsEntry}
-use Rattle.discard_book.specs.declared.entry.Entry.{Entry}
 use Rattle.discard_book.specs.declared.entry.Entry.TheVariants.{Grant}
 use Rattle.lru_reduce.specs.Wards.{Wards, segments_of}
 use Rattle.lru_reduce.specs.Calls.{AddsSide}

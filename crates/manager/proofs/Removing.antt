@@ -1,7 +1,7 @@
 -- The removal of a client, number by number.
-use Rattle.std.proofs.Common.{◌≡◌, ◌≢◌, ℕ, ◌+◌, ◌<◌, ◌≤◌, ◌==◌, zero, suc, Bool, true, false, not, cond, ◌&&◌, ◌||◌, List, [], ◌∷◌, ◌++◌, length, get_or, map, filter, All, refl, sym, ap, ap₂, subst, ◌∙◌, arith, length-append, append_assoc}
+use Rattle.std.proofs.Common.{◌≡◌, ◌≢◌, ℕ, ◌+◌, ◌<◌, ◌≤◌, ◌==◌, zero, suc, Bool, true, false, not, cond, ◌&&◌, ◌||◌, List, [], ◌∷◌, ◌++◌, length, map, filter, All, refl, sym, ap, ap₂, subst, ◌∙◌, arith, length-append, append_assoc}
 use mir.Val.{bool_byte}
-use Rattle.std.specs.List.{list_any, AllPairs}
+use Rattle.std.specs.List.{AllPairs}
 use Rattle.std.proofs.lemmas.Bool.Decides.{nat_tests}
 use Rattle.std.proofs.lemmas.List.{append-nil, map-append, length-map, get_or-map}
 use Rattle.std.proofs.lemmas.List.Elements.{All-nil, All-cons, All-head, All-tail, All-weaker, All-append, All-filter, filter-append}
@@ -15,7 +15,7 @@ use Rattle.discard_book.specs.declared.entry.Entry.{Entry}
 use Rattle.discard_book.specs.declared.entry.Entry.TheVariants.{Back}
 use Rattle.lru_reduce.specs.Wards.{Wards, number_of, IsRisingBy, segment_of, segments_of, without_ward}
 use Rattle.manager.specs.Managed.{Managed, managed}
-use Rattle.manager.specs.Clients.{grants_to, gives_back, is_granted_to, was_given_back, is_with}
+use Rattle.manager.specs.Clients.{gives_back, is_granted_to, was_given_back, is_with}
 use Rattle.manager.specs.Calls.{sides_with, Removes}
 use Rattle.manager.specs.Keeping.{LetsGo}
 use Rattle.manager.proofs.TableTells.{granted_on}
@@ -54,9 +54,10 @@ numbers_are (w ∷ sides) = ap (λ (more : List ℕ). w.id ∷ more) (numbers_ar
 
 rising_is : (sides : List Warded) → AllPairs (λ (x y : ℕ). x < y) (map number_of sides) → IsRisingBy number_of sides
 rising_is [] pairs = tt
-rising_is (w ∷ sides) pairs =
-    (λ k d l. let low = pairs zero (suc k) 0 (omega arith) (rw length-map (omega (arith, l))) in subst (λ (n : ℕ). w.id < n) (get_or-map number_of sides k d 0 l) low,
-    rising_is sides (λ i j d l k. pairs (suc i) (suc j) d (omega (arith, l)) (omega (arith, k))))
+rising_is (w ∷ sides) pairs = (
+  λ k d l. let low = pairs zero (suc k) 0 (omega arith) (rw length-map (omega (arith, l))) in subst (λ (n : ℕ). w.id < n) (get_or-map number_of sides k d 0 l) low,
+  rising_is sides (λ i j d l k. pairs (suc i) (suc j) d (omega (arith, l)) (omega (arith, k))),
+)
 
 all_rise : (sides : List Warded) (entries : List Entry) → live entries ≡ segments_of sides → AreDrawn (live entries) (grants entries) → IsRisingBy number_of sides
 all_rise sides entries lives drawn =
@@ -158,8 +159,8 @@ asked client place removed answer start log after wards left stock filled r live
     let other_front = All-filter (without_client client start.entries) (λ (w : Warded). w.id ≢ place + 1) r.front (apart_below place r.front r.below) in
     record {
       told = goes.told ∙ ap₂ (λ (a b : Bool). a && b)
-      (ap (λ (es : List Entry). is_with client (place + 1) es) r.entries ∙ with_same client (place + 1) start.entries (filter (with_client client start.entries) r.front) with_front)
-      (ap (λ (ss : List (ℕ × ℕ)). has_number ss (place + 1)) (lives ∙ ap (λ (ws : List Warded). segments_of ws) r.sides) ∙ live_in_rest (place + 1) (filter (without_client client start.entries) r.front) r.rest other_front);
+          (ap (λ (es : List Entry). is_with client (place + 1) es) r.entries ∙ with_same client (place + 1) start.entries (filter (with_client client start.entries) r.front) with_front)
+          (ap (λ (ss : List (ℕ × ℕ)). has_number ss (place + 1)) (lives ∙ ap (λ (ws : List Warded). segments_of ws) r.sides) ∙ live_in_rest (place + 1) (filter (without_client client start.entries) r.front) r.rest other_front);
     }
 
 and_none : (a b : Bool) → b ≡ false → (a && b) ≡ false
@@ -211,11 +212,11 @@ takes client place removed true start log after wards left stock filled w more r
       above = All-weaker (λ (v : Warded). w.id < v.id) (λ (v : Warded). place + 1 < v.id) (λ v l. omega (arith, l, number)) more above;
       rising = rising;
       sides = goes.sides ∙ ap (λ (ws : List Warded). without_ward (place + 1) ws) (r.sides ∙ ap (λ (ws : List Warded). filter q r.front ++ ws) is)
-      ∙ filter-append (λ (v : Warded). not (v.id == place + 1)) (filter q r.front) (w ∷ more)
-      ∙ ap₂ (λ (a b : List Warded). a ++ b) (stay (place + 1) (filter q r.front) others) (ap (λ (b : Bool). cond (not b) (w ∷ without_ward (place + 1) more) (without_ward (place + 1) more)) same ∙ stay (place + 1) more higher)
-      ∙ sym (ap (λ (ws : List Warded). ws ++ more) (on q r.front w false out ∙ fronts));
+          ∙ filter-append (λ (v : Warded). not (v.id == place + 1)) (filter q r.front) (w ∷ more)
+          ∙ ap₂ (λ (a b : List Warded). a ++ b) (stay (place + 1) (filter q r.front) others) (ap (λ (b : Bool). cond (not b) (w ∷ without_ward (place + 1) more) (without_ward (place + 1) more)) same ∙ stay (place + 1) more higher)
+          ∙ sym (ap (λ (ws : List Warded). ws ++ more) (on q r.front w false out ∙ fronts));
       entries = goes.entries ∙ ap₂ (λ (es : List Entry) (n : ℕ). es ++ Back n ∷ []) r.entries (sym number) ∙ append_assoc start.entries (map back_of (filter p r.front)) (Back w.id ∷ [])
-      ∙ ap (λ (es : List Entry). start.entries ++ es) (sym (map-append back_of (filter p r.front) (w ∷ [])) ∙ ap (λ (ws : List Warded). map back_of ws) (sym (on p r.front w true has)));
+          ∙ ap (λ (es : List Entry). start.entries ++ es) (sym (map-append back_of (filter p r.front) (w ∷ [])) ∙ ap (λ (ws : List Warded). map back_of ws) (sym (on p r.front w true has)));
       stays = goes.stock ∙ r.stays;
       counted = rw (on p r.front w true has) (omega (arith, counted, long));
       few = omega (arith, few);

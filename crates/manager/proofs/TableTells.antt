@@ -1,6 +1,5 @@
 -- The table by number follows the book's entries.
-use Rattle.std.proofs.Common.{◌≡◌, ◌≢◌, ℕ, ◌+◌, ◌-◌, ◌<◌, ◌≤◌, ◌==◌, zero, suc, nat_lt, Bool, true, false, not, cond, ◌&&◌, ◌||◌, List, [], ◌∷◌, ◌++◌, Option, length, get_or, set, map, refl, sym, ap, ap₂, subst, ◌∙◌, arith, length-append, inl, inr}
-use Rattle.std.specs.List.{list_any}
+use Rattle.std.proofs.Common.{◌≡◌, ◌≢◌, ℕ, ◌+◌, ◌-◌, ◌<◌, ◌≤◌, ◌==◌, zero, suc, nat_lt, Bool, true, false, not, cond, ◌&&◌, ◌||◌, List, [], ◌∷◌, ◌++◌, Option, length, get_or, set, map, refl, sym, ap, ap₂, ◌∙◌, arith, length-append}
 use Rattle.std.proofs.lemmas.Bool.Decides.{nat_tests}
 use Rattle.std.proofs.lemmas.List.{length-set, get_or_past, get_or_append_left, get_or-append_right, get_or-set_same, get_or-set_other}
 use Rattle.std.proofs.lemmas.List.Folds.{list_any-append}
@@ -10,7 +9,7 @@ use Rattle.discard_book.specs.declared.entry.Entry.{Entry}
 use Rattle.discard_book.specs.declared.entry.Entry.TheVariants.{Grant, Reduced, Purge, Back}
 use Rattle.machine.specs.Reduction.{Candidate}
 use Rattle.lru_reduce.specs.Reducing.{purge_of}
-use Rattle.manager.specs.Clients.{grants_to, gives_back, is_granted_to, was_given_back, is_with}
+use Rattle.manager.specs.Clients.{grants_to, gives_back, is_granted_to, was_given_back}
 use Rattle.manager.specs.Keeping.{client_at, Tells}
 
 -- What stands at a number
@@ -145,7 +144,7 @@ tells_grant entries table id client pages limit tells drawn some =
     record {
       numbers = length-append table (client ∷ []) ∙ ap (λ n. n + 1) numbers ∙ sym on;
       clients = λ who number. one who number (id == number) refl
-        ∙ sym (ap₂ (λ (a b : Bool). a && not b) (list_any-append (grants_to who number) entries (Grant id client pages limit ∷ [])) (list_any-append (gives_back number) entries (Grant id client pages limit ∷ [])));
+          ∙ sym (ap₂ (λ (a b : Bool). a && not b) (list_any-append (grants_to who number) entries (Grant id client pages limit ∷ [])) (list_any-append (gives_back number) entries (Grant id client pages limit ∷ [])));
       fresh = λ number above. back_on number entries (Grant id client pages limit ∷ []) refl ∙ tells.fresh number (omega (arith, above, on));
     }
   where
@@ -171,10 +170,10 @@ tells_back entries table id tells low high =
     record {
       numbers = length-set table (id - 1) 0 ∙ omega (arith, on, numbers);
       clients = λ who number. one who number (id == number) refl
-        ∙ sym (ap₂ (λ (a b : Bool). a && not b) (granted_on who number entries (Back id ∷ []) refl) (list_any-append (gives_back number) entries (Back id ∷ [])));
+          ∙ sym (ap₂ (λ (a b : Bool). a && not b) (granted_on who number entries (Back id ∷ []) refl) (list_any-append (gives_back number) entries (Back id ∷ [])));
       fresh = λ number above.
-        let apart : (id == number) ≡ false = grind (arith, nat_tests, above, on, numbers, high) in
-        list_any-append (gives_back number) entries (Back id ∷ []) ∙ ap₂ (λ (a b : Bool). a || (b || false)) (tells.fresh number (omega (arith, above, on))) apart;
+          let apart : (id == number) ≡ false = grind (arith, nat_tests, above, on, numbers, high) in
+          list_any-append (gives_back number) entries (Back id ∷ []) ∙ ap₂ (λ (a b : Bool). a || (b || false)) (tells.fresh number (omega (arith, above, on))) apart;
     }
   where
     nobody : (who : ℕ) (g b : Bool) → (nat_lt 0 who && (0 == who)) ≡ (g && not (b || (true || false)))

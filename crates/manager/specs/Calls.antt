@@ -1,5 +1,5 @@
 -- What the calls of a manager's state answer, and what they change.
-use Rattle.std.specs.Prelude.{◌≡◌, ◌≢◌, ◌⊎◌, ℕ, ◌+◌, ◌*◌, ◌/◌, ◌==◌, nat_lt, Bool, true, false, not, if◌then◌else◌, List, [], ◌∷◌, ◌++◌, length, map, filter, Option, Some, None, MatchBool}
+use Rattle.std.specs.Prelude.{◌≡◌, ◌≢◌, ◌⊎◌, ℕ, ◌+◌, ◌*◌, ◌/◌, nat_lt, true, false, not, if◌then◌else◌, List, [], ◌∷◌, ◌++◌, length, map, filter, Option, Some, None, MatchBool}
 use Rattle.std.specs.List.{Contains}
 use Rattle.machine.specs.Reduction.{Candidate, use_of}
 use Rattle.segment.specs.Owned.{Owned, new_owner, IsGranted}
@@ -10,7 +10,7 @@ use Rattle.discard_book.specs.Live.{live, has_number, granted, grants}
 use Rattle.discard_book.specs.Legal.{room}
 use Rattle.discard_book.specs.declared.entry.Entry.{Entry}
 use Rattle.discard_book.specs.declared.entry.Entry.TheVariants as entry
-use Rattle.lru_reduce.specs.Wards.{candidates_of, number_of, without_ward, wards_after, used_after}
+use Rattle.lru_reduce.specs.Wards.{candidates_of, without_ward, wards_after, used_after}
 use Rattle.lru_reduce.specs.Reducing.{ReducesTo, TellsEnd, purge_of}
 use Rattle.lru_reduce.specs.declared.reduction.Reduced.{Reduced}
 use Rattle.manager.specs.Managed.{Managed}

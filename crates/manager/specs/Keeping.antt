@@ -1,5 +1,5 @@
 -- What a manager keeps beside its book, and how the two agree.
-use Rattle.std.specs.Prelude.{◌≡◌, ℕ, ◌+◌, ◌-◌, ◌<◌, ◌≤◌, ◌==◌, nat_lt, Bool, false, ◌&&◌, if◌then◌else◌, List, [], ◌∷◌, ◌++◌, length, slice_index_or}
+use Rattle.std.specs.Prelude.{◌≡◌, ℕ, ◌<◌, ◌≤◌, ◌==◌, nat_lt, Bool, false, ◌&&◌, if◌then◌else◌, List, [], ◌∷◌, ◌++◌, length, slice_index_or}
 use Rattle.discard_book.specs.Live.{live, has_number, grants}
 use Rattle.discard_book.specs.Log.{Log}
 use Rattle.discard_book.specs.declared.entry.Entry.{Entry}

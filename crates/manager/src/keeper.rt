@@ -76,13 +76,20 @@ impl Keeper {
         ensures clients { self.new.clients ≡ self.old.clients }
     {
         let mut granted = self.book.granted();
-        let reduced = self.order.reduce(&mut granted, limit, now, &mut self.book, &mut self.pool);
+        let reduced = self
+            .order
+            .reduce(&mut granted, limit, now, &mut self.book, &mut self.pool);
         self.promised -= reduced.purges;
         reduced
     }
 
     /// Takes the memory for the entry of a reduction, and reduces. After `NoMemory` all is as before.
-    pub(crate) fn reduce_to(&mut self, alloc: Global, limit: u64, now: u64) -> Result<Reduced, NoMemory>
+    pub(crate) fn reduce_to(
+        &mut self,
+        alloc: Global,
+        limit: u64,
+        now: u64,
+    ) -> Result<Reduced, NoMemory>
         requires { IsMoment now }
         ensures ok { IfOk result (λ reduced. (kept : ℕ) → Reduces limit now reduced
             (managed kept self.old.book self.old.order self.old.pool)

@@ -5,6 +5,8 @@
 mod answers;
 mod keeper;
 mod state;
+#[cfg(test)]
+mod tests;
 
 pub use answers::{Back, Level, Tried};
 pub use state::State;

@@ -1,6 +1,4 @@
-use Rattle.std.proofs.Common.{◌≡◌, ◌-◌, ◌<◌, refl, arith}
-use Rattle.discard_book.specs.Live.{granted}
-use Rattle.discard_book.specs.Legal.{room}
+use Rattle.std.proofs.Common.{refl, arith}
 use Rattle.manager.specs.Managed.{managed}
 use Rattle.manager.proofs.Rooms.{made, has_room_after}
 use Rattle.manager.proofs.keeper.Keeper.fit.Goals as goal

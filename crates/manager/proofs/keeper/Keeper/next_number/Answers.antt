@@ -1,4 +1,4 @@
-use Rattle.std.proofs.Common.{◌+◌, ◌≡◌, ap, ℕ}
+use Rattle.std.proofs.Common.{◌+◌, ap, ℕ}
 use Rattle.manager.proofs.LiveSides.{is_new}
 use Rattle.manager.proofs.keeper.Keeper.next_number.Goals as goal
 

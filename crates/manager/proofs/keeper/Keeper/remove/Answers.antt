@@ -1,7 +1,7 @@
 use Rattle.std.proofs.Common.{◌≡◌, arith}
 use Rattle.discard_book.specs.Live.{grants}
 use Rattle.manager.specs.Managed.{managed}
-use Rattle.manager.proofs.Removing.{Removing, removing_first, removing_next, removes}
+use Rattle.manager.proofs.Removing.{removing_first, removing_next, removes}
 use Rattle.manager.proofs.keeper.Keeper.remove.Goals as goal
 
 pub loop-place-init : goal.loop-place-init

@@ -1,4 +1,4 @@
-use Rattle.std.proofs.Common.{◌≡◌, ◌∙◌, refl, inl, inr, subst}
+use Rattle.std.proofs.Common.{◌∙◌, refl, inl, inr, subst}
 use Rattle.std.proofs.lemmas.Result.{IfOk-weaker, on_err_weaker}
 use Rattle.manager.specs.Managed.{Managed, managed}
 use Rattle.manager.specs.Calls.{MakesRoom}
