@@ -5,3 +5,4 @@ pub mod Placed
 pub mod Steps
 pub mod Gained
 pub mod Turned
+pub mod Granted

@@ -1,7 +1,6 @@
 -- What one turn of a reduction does.
-use Rattle.std.proofs.Common.{◌≡◌, ◌≢◌, ℕ, ◌+◌, ◌*◌, ◌<◌, ◌≤◌, ◌==◌, nat_le, ◌||◌, Bool, true, false, not, cond, List, [], ◌∷◌, length, get_or, set, map, filter, sum_by, Option, Some, refl, sym, ap, ◌∙◌, subst, arith}
+use Rattle.std.proofs.Common.{◌≡◌, ◌≢◌, ℕ, ◌+◌, ◌*◌, ◌<◌, ◌≤◌, ◌==◌, Bool, true, false, not, cond, List, [], ◌∷◌, length, get_or, set, map, filter, sum_by, Option, Some, refl, sym, ap, ◌∙◌, arith}
 use Rattle.std.specs.List.{remove}
-use Rattle.std.proofs.lemmas.Bool.Decides.{nat_tests}
 use Rattle.std.proofs.lemmas.List.{get_or_read}
 use Rattle.std.proofs.lemmas.List.Edits.{length-remove}
 use Rattle.std.proofs.lemmas.List.Elements.{All-filter, All-map, All-weaker}
@@ -9,11 +8,10 @@ use Rattle.std.proofs.lemmas.List.Sums.{sum_by-cons, sum_by-set, sum_by-remove, 
 use Rattle.units.specs.declared.TheConstants.{PAGE}
 use Rattle.segment_rule.specs.Views.{IsTimely, known_use}
 use Rattle.segment.specs.Warded.{Warded}
-use Rattle.machine.specs.Reduction.{Candidate, use_of, least, is_late, has_ended}
+use Rattle.machine.specs.Reduction.{Candidate, least}
 use Rattle.lru_reduce.specs.Wards.{AreLive, number_of, candidate_of, candidates_of, total_pages, noted_at, used_after}
-use Rattle.lru_reduce.specs.Calls.{IsLeastAt}
 use Rattle.lru_reduce.specs.Measure.{work_of}
-use Rattle.lru_reduce.specs.Turns.{IsDue, WinsAt, LosesAt, stood_as}
+use Rattle.lru_reduce.specs.Turns.{WinsAt, LosesAt, stood_as}
 use Rattle.lru_reduce.proofs.Keyed.{same_yes, same_no, remove-but, set-changed, remove-set, IsRisingBy-filter, IsRisingBy-map}
 use Rattle.lru_reduce.proofs.Work.{known_by, less_left}
 
@@ -118,43 +116,4 @@ lost_at now place word known spare sides old new ok inside here other timely cha
       sides = rw lost (set_is now place word sides old new ok inside here changed);
       room = refl;
       less = λ before. let falls = less_left now word old.tries before other timely in omega (arith, works, was, is, falls);
-    }
-
--- Whether the reduction goes on
-
-late_here : (limit now place : ℕ) (sides : List Warded) (x : Warded) → IsLeastAt place sides → place < length sides → x ≡ get_or sides place x → is_late now (least (candidates_of sides)) ≡ is_late now (Some (candidate_of x))
-late_here limit now place sides x first inside here =
-    ap (λ (c : Option Candidate). is_late now c) (first x ∙ ap (λ (w : Warded). Some (candidate_of w)) (sym here))
-
-pub ends_within : (limit now : ℕ) (sides : List Warded) → total_pages sides ≤ limit → has_ended limit now (candidates_of sides) ≡ true
-ends_within limit now sides within =
-    let t : nat_le (total_pages sides) limit ≡ true = grind (arith, nat_tests, within) in
-    rw t refl
-
-pub ends_empty : (limit now : ℕ) (sides : List Warded) → sides ≡ [] → has_ended limit now (candidates_of sides) ≡ true
-ends_empty limit now sides none = subst (λ (ws : List Warded). has_ended limit now (candidates_of ws) ≡ true) (sym none) (ends_by (nat_le 0 limit) refl)
-  where
-    ends_by : (t : Bool) → nat_le 0 limit ≡ t → has_ended limit now [] ≡ true
-    ends_by t e = grind (arith, nat_tests)
-
-pub ends_late : (limit now place : ℕ) (sides : List Warded) (x : Warded) → IsLeastAt place sides → place < length sides → x ≡ get_or sides place x → now ≤ use_of (candidate_of x)
-    → has_ended limit now (candidates_of sides) ≡ true
-ends_late limit now place sides x first inside here late =
-    let t : is_late now (Some (candidate_of x)) ≡ true = grind (arith, nat_tests, late) in
-    rw (late_here limit now place sides x first inside here, t) (or_true (nat_le (total_pages sides) limit))
-  where
-    or_true : (b : Bool) → (b || true) ≡ true
-    or_true true = refl
-    or_true false = refl
-
-pub is_due : (limit now place : ℕ) (sides : List Warded) (x : Warded) → limit < total_pages sides → IsLeastAt place sides → place < length sides → x ≡ get_or sides place x → use_of (candidate_of x) < now
-    → IsDue limit now place sides
-is_due limit now place sides x above first inside here early =
-    let a : nat_le (total_pages sides) limit ≡ false = grind (arith, nat_tests, above) in
-    let b : is_late now (Some (candidate_of x)) ≡ false = grind (arith, nat_tests, early) in
-    record {
-      inside = inside;
-      going = rw (a, late_here limit now place sides x first inside here, b) refl;
-      first = first;
-      early = λ d. subst (λ (w : Warded). use_of (candidate_of w) < now) (get_or_read sides place x inside here d) early;
     }

@@ -1,9 +1,9 @@
 -- A reduction, turn by turn.
-use Rattle.std.proofs.Common.{◌≡◌, ℕ, ◌+◌, ◌*◌, ◌<◌, ◌≤◌, ◌==◌, true, false, not, cond, List, [], ◌∷◌, ◌++◌, length, get_or, map, filter, sum, sum_by, Option, Some, option_map, refl, sym, ap, ap₂, subst, ◌∙◌, arith, length-append, append_assoc}
+use Rattle.std.proofs.Common.{◌≡◌, ℕ, ◌+◌, ◌*◌, ◌<◌, ◌≤◌, ◌==◌, true, false, not, cond, List, [], ◌∷◌, ◌++◌, length, get_or, map, filter, sum, Option, Some, refl, sym, ap, ap₂, subst, ◌∙◌, arith, length-append, append_assoc}
 use Rattle.std.proofs.lemmas.Bool.Decides.{nat_tests}
 use Rattle.std.proofs.lemmas.List.{append-nil, map-append, length-map, get_or-map}
 use Rattle.std.proofs.lemmas.List.Folds.{list_any_at}
-use Rattle.std.proofs.lemmas.List.Sums.{sum_by-cons, fold-append, sum-map}
+use Rattle.std.proofs.lemmas.List.Sums.{fold-append}
 use Rattle.units.specs.declared.TheConstants.{PAGE}
 use Rattle.units.specs.Moment.{is_moment}
 use Rattle.machine.specs.Reduction.{Candidate, use_of, least, has_ended, purged_by, tries}
@@ -11,8 +11,8 @@ use Rattle.segment.specs.Warded.{Warded}
 use Rattle.block_pool.specs.Block.{page_count}
 use Rattle.block_pool.specs.Stock.{Stock, after_put}
 use Rattle.discard_book.specs.Log.{Log}
-use Rattle.discard_book.specs.Live.{live, has_number, pages_of, granted, live_after}
-use Rattle.discard_book.specs.Legal.{fits_after, may_stop}
+use Rattle.discard_book.specs.Live.{live, has_number, granted, live_after}
+use Rattle.discard_book.specs.Legal.{fits_after}
 use Rattle.discard_book.specs.declared.entry.Entry.{Entry}
 use Rattle.discard_book.specs.declared.entry.Entry.TheVariants.{Purge, Reduced}
 use Rattle.lru_reduce.specs.Wards.{Wards, candidate_of, candidates_of, segment_of, segments_of, total_pages, noted_at, wards_after, without_ward}
@@ -41,14 +41,6 @@ total-noted now word id sides = ap (λ (ns : List ℕ). sum ns) (same sides)
     same : (ws : List Warded) → map (λ (c : Candidate). c.pages) (candidates_of (map (noted_at now word id) ws)) ≡ map (λ (c : Candidate). c.pages) (candidates_of ws)
     same [] = refl
     same (w ∷ ws) = ap₂ (λ (a : ℕ) (more : List ℕ). a ∷ more) (elim (w.id == id) as (λ b. (candidate_of (cond b (record w { tries = (now, word) ∷ w.tries }) w)).pages ≡ w.pages) [ true ↦ refl | false ↦ refl ]) (same ws)
-
--- the book's pages are the order's
-pub total_is : (sides : List Warded) → pages_of (segments_of sides) ≡ total_pages sides
-total_is sides = by_one sides ∙ sym (sum-map (λ (c : Candidate). c.pages) (candidates_of sides))
-  where
-    by_one : (ws : List Warded) → pages_of (segments_of ws) ≡ sum_by (λ (c : Candidate). c.pages) (candidates_of ws)
-    by_one [] = refl
-    by_one (w ∷ ws) = sum_by-cons (λ (s : ℕ × ℕ). s.1) (segment_of w) (segments_of ws) ∙ ap (λ n. w.pages + n) (by_one ws) ∙ sym (sum_by-cons (λ (c : Candidate). c.pages) (candidate_of w) (candidates_of ws))
 
 -- what stands in the middle of a reduction
 pub record Going (limit now : ℕ) (start : Wards) (book : Log) (pool : Stock) (granted : ℕ) (wards : Wards) (log : Log) (filled : Stock) : Type 0 where
@@ -172,23 +164,8 @@ less_where_lost limit now place known wards new turn lost = lost.less (due_is li
 
 -- The end
 
-stops : (limit now : ℕ) (sides : List Warded) (told : Option ℕ) → told ≡ option_map use_of (least (candidates_of sides)) → has_ended limit now (candidates_of sides) ≡ true
-    → ((entries : List Entry) → live entries ≡ segments_of sides → may_stop entries limit now told ≡ true)
-stops limit now [] told is ended entries lives = rw (is, lives) refl
-stops limit now (w ∷ sides) told is ended entries lives =
-    rw (is, lives, total_is (w ∷ sides)) ended
-
--- the reduction fits the book
-pub fits_reduced : (limit now granted : ℕ) (told : Option ℕ) (start : Wards) (book : Log) (pool : Stock) (wards : Wards) (log : Log) (filled : Stock)
-    → Going limit now start book pool granted wards log filled → has_ended limit now (candidates_of wards.sides) ≡ true → told ≡ option_map use_of (least (candidates_of wards.sides))
-    → fits_after log.entries (Reduced limit now granted told) ≡ true
-fits_reduced limit now left told start book pool wards log filled going ended is =
-    let same : left ≡ granted log.entries = going.total ∙ sym (total_is wards.sides) ∙ sym (ap (λ (ss : List (ℕ × ℕ)). pages_of ss) going.live) in
-    let yes : (left == granted log.entries) ≡ true = same_yes left (granted log.entries) same in
-    rw (yes, stops limit now wards.sides told is ended log.entries going.live) refl
-
 -- all pass
-filter_all : (segments : List (ℕ × ℕ)) → filter (λ (s : ℕ × ℕ). true) segments ≡ segments
+pub filter_all : (segments : List (ℕ × ℕ)) → filter (λ (s : ℕ × ℕ). true) segments ≡ segments
 filter_all [] = refl
 filter_all (s ∷ segments) = ap (λ more. s ∷ more) (filter_all segments)
 

@@ -4,6 +4,8 @@
 mod least;
 mod order;
 mod reduction;
+#[cfg(test)]
+mod tests;
 
 pub use order::Order;
 pub use reduction::Reduced;
