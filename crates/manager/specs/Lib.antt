@@ -1,0 +1,4 @@
+pub mod Managed
+pub mod Clients
+pub mod Calls
+pub mod Keeping
