@@ -6,3 +6,6 @@ pub mod FreeingKeepsThePartition
 pub mod SegmentsComeAndLeave
 pub mod CountsAreKept
 pub mod UsedPagesAreCounted
+pub mod ByClass
+pub mod PlacedRunsKeepTheirPlaces
+pub mod TableTellsEachRun

@@ -1,0 +1,85 @@
+-- The table of a heap's pages: each page has a place, and the place tells which run begins or ends there.
+use Rattle.std.specs.Prelude.{◌≡◌, ℕ, ◌+◌, ◌^◌, ◌<◌, ◌≤◌, Bool, ◌==◌, List, [], length, slice_index_or, map, All, Contains, filter, count_by}
+use Rattle.span_heap.specs.declared.run.Run.{Run}
+use Rattle.span_heap.specs.Run.{lies_in, begins_at, ends_at, pages_of}
+use Rattle.span_heap.specs.Segment.{Segment}
+use Rattle.span_heap.specs.Heap.{size_of}
+use Rattle.span_heap.specs.Placed.{Placed, run_at, free_of, used_of, IsDistinct}
+
+-- a segment in the table: its number, and the place of each of its pages
+pub record Row : Type 0 where
+  pub id : ℕ
+  pub places : List ℕ
+
+-- what is seen of a row
+abbrev pub shown_row : Row → Segment
+shown_row row = record { id = row.id; pages = length row.places }
+
+-- the row has this number
+abbrev pub is_row : ℕ → Row → Bool
+is_row id row = row.id == id
+
+-- the row at an index
+abbrev pub row_at : List Row → ℕ → Row
+row_at rows at = slice_index_or rows at (record { id = 0; places = [] })
+
+-- the number of pages of the row at an index
+abbrev pub width_at : List Row → ℕ → ℕ
+width_at rows at = length (row_at rows at).places
+
+-- the place of a page of the row at an index
+abbrev pub place_at : List Row → ℕ → ℕ → ℕ
+place_at rows at page = slice_index_or (row_at rows at).places page 0
+
+-- the row of this number stands at this index
+pub record RowStands (rows : List Row) (id at : ℕ) : Type 0 where
+  pub within : at < length rows
+  pub numbered : (row_at rows at).id ≡ id
+
+-- two pages with one place are one page
+abbrev pub AreApart : List Row → Type 0
+AreApart rows =
+    (at page at' page' : ℕ) → page < width_at rows at → page' < width_at rows at' → place_at rows at page ≡ place_at rows at' page' → (at ≡ at') × (page ≡ page')
+
+-- Each page has a place of its own below `size`, and so has each spare place; there are no more places than that, and fewer than 2^32.
+pub record ArePlaces (rows : List Row) (spare : List ℕ) (size : ℕ) : Type 0 where
+  pub distinct : (id : ℕ) → count_by (is_row id) rows ≤ 1
+  pub within : (at page : ℕ) → page < width_at rows at → place_at rows at page < size
+  pub apart : AreApart rows
+  pub spare_within : All (λ place. place < size) spare
+  pub spare_apart : (at page : ℕ) → page < width_at rows at → Contains spare (place_at rows at page) → ⊥
+  pub spare_once : IsDistinct spare
+  pub small : size < 2 ^ 32
+  pub full : size_of (map shown_row rows) + length spare ≡ size
+
+-- the run lies in the row of its segment, has a page, and is kept under the place of its first page
+abbrev pub HasKey : List Row → Run → ℕ → Type 0
+HasKey rows run place =
+    (at : ℕ) × RowStands rows run.segment at × (1 ≤ run.pages) × (run.first + run.pages ≤ width_at rows at) × (place_at rows at run.first ≡ place)
+
+-- the run's last page is this one
+abbrev pub stops_at : ℕ → ℕ → Run → Bool
+stops_at segment page run = ends_at segment (page + 1) run
+
+-- at the place of each page, the mark is how many pages those runs have that pass the test for this page
+abbrev pub MarksTell : List Row → List ℕ → (ℕ → ℕ → Run → Bool) → List Run → Type 0
+MarksTell rows marks test runs =
+    (at page : ℕ) → page < width_at rows at → slice_index_or marks (place_at rows at page) 0 ≡ pages_of (filter (test (row_at rows at).id page) runs)
+
+-- each row's count is how many pages of its segment are used
+abbrev pub CountsTell : List Row → List ℕ → List Run → Type 0
+CountsTell rows counts used = (at : ℕ) → at < length rows → slice_index_or counts at 0 ≡ pages_of (filter (lies_in (row_at rows at).id) used)
+
+-- Each run is kept under the place of its first page, no place has two, and the marks and counts tell of the runs.
+pub record HoldsRuns (rows : List Row) (placed : Placed) (free_from free_to used_from counts : List ℕ) : Type 0 where
+  pub free_from_size : length free_from ≡ length placed.runs
+  pub free_to_size : length free_to ≡ length placed.runs
+  pub used_from_size : length used_from ≡ length placed.runs
+  pub counts_size : length counts ≡ length rows
+  pub once : (place : ℕ) → count_by (λ other. other == place) placed.free + count_by (λ other. other == place) placed.used ≤ 1
+  pub free_keys : All (λ place. HasKey rows (run_at placed.runs place) place) placed.free
+  pub used_keys : All (λ place. HasKey rows (run_at placed.runs place) place) placed.used
+  pub begins : MarksTell rows free_from begins_at (free_of placed)
+  pub stops : MarksTell rows free_to stops_at (free_of placed)
+  pub uses : MarksTell rows used_from begins_at (used_of placed)
+  pub counts_used : CountsTell rows counts (used_of placed)

@@ -1,0 +1,100 @@
+//! The free runs and used spans of a heap, each kept under a place.
+ghost use Rattle.std.specs.Prelude.{◌≡◌, ◌-◌, ◌<◌, ◌≤◌, ◌++◌, ◌∷◌, [], Contains, length, set};
+ghost use Rattle.free_lists.specs.Lists.{without};
+ghost use Rattle.span_heap.specs.Placed.{IsPickOf};
+
+use crate::by_class::pick_place;
+use crate::run::Run;
+use free_lists::Lists;
+use std::marker::Model;
+
+/// The class of the order in which the free runs stand, by age.
+const FREE: u32 = 1;
+
+/// The class of the order in which the used spans stand.
+const USED: u32 = 2;
+
+/// Runs under places. A free run stands in the list of its length too.
+#[derive(Debug, Drop)]
+pub(crate) struct PlacedRuns {
+    lists: Lists,
+    /// How many places the lists have.
+    listed: u32,
+    order: Lists,
+    /// How many places the order has.
+    ordered: u32,
+    /// The run under each place, where one stands there.
+    runs: Vec<Run>,
+}
+
+impl Model for PlacedRuns {
+    ghost use Rattle.free_lists.specs.Lists.{list_of};
+    ghost use Rattle.span_heap.specs.Placed.{Placed, IsPlaced};
+
+    ghost Value = { Placed };
+
+    ghost view = { λ p. record { free = list_of p.order 1; used = list_of p.order 2; runs = p.runs.items } };
+
+    ghost invariant = { λ p. IsPlaced p.lists p.order p.runs.items p.listed p.ordered };
+}
+
+impl PlacedRuns {
+    /// Keeps a free run under a place, as the latest.
+    pub(crate) fn add_free(&mut self, place: u32, run: Run)
+        requires place { place < length self.old.runs }
+        requires not_free { Contains self.old.free place → ⊥ }
+        requires not_used { Contains self.old.used place → ⊥ }
+        requires sized { 1 ≤ run.pages }
+        ensures free { self.new.free ≡ self.old.free ++ place ∷ [] }
+        ensures used { self.new.used ≡ self.old.used }
+        ensures runs { self.new.runs ≡ set self.old.runs place run }
+    {
+        self.lists.append(place, run.pages);
+        self.order.append(place, FREE);
+        self.runs[place as usize] = run;
+    }
+
+    /// Keeps a used span under a place.
+    pub(crate) fn add_used(&mut self, place: u32, span: Run)
+        requires place { place < length self.old.runs }
+        requires not_free { Contains self.old.free place → ⊥ }
+        requires not_used { Contains self.old.used place → ⊥ }
+        ensures free { self.new.free ≡ self.old.free }
+        ensures used { self.new.used ≡ self.old.used ++ place ∷ [] }
+        ensures runs { self.new.runs ≡ set self.old.runs place span }
+    {
+        self.order.append(place, USED);
+        self.runs[place as usize] = span;
+    }
+
+    /// Takes out the free run under a place.
+    pub(crate) fn take_free(&mut self, place: u32)
+        requires { Contains self.old.free place }
+        ensures free { self.new.free ≡ without self.old.free place }
+        ensures used { self.new.used ≡ self.old.used }
+        ensures runs { self.new.runs ≡ self.old.runs }
+    {
+        self.lists.remove(place);
+        self.order.remove(place);
+    }
+
+    /// Takes out the used span under a place.
+    pub(crate) fn take_used(&mut self, place: u32)
+        requires { Contains self.old.used place }
+        ensures free { self.new.free ≡ self.old.free }
+        ensures used { self.new.used ≡ without self.old.used place }
+        ensures runs { self.new.runs ≡ self.old.runs }
+    {
+        self.order.remove(place);
+    }
+
+    /// The free run that a search for `pages` to `most` pages takes.
+    pub(crate) fn pick(&self, pages: u32, most: u32) -> Option<Run>
+        requires sized { 1 ≤ pages }
+        requires order { pages ≤ most }
+        ensures { IsPickOf self.now pages (most - pages) result }
+    {
+        let place = pick_place(&self.lists, self.runs.as_slice(), pages, most)?;
+        Some(self.runs[place as usize])
+    }
+}

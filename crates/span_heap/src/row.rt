@@ -1,0 +1,63 @@
+//! A segment in the table of pages.
+ghost use Rattle.std.specs.Prelude.{◌≡◌, ◌<◌, length, position, slice_index_or, IsTrue};
+ghost use Rattle.std.specs.List.{list_any};
+ghost use Rattle.span_heap.specs.Table.{is_row, RowStands};
+
+use std::marker::Model;
+
+/// A segment, with the place of each of its pages.
+#[derive(Debug, Drop)]
+pub(crate) struct PageRow {
+    id: u64,
+    places: Vec<u32>,
+}
+
+impl Model for PageRow {
+    ghost use Rattle.span_heap.specs.Table.{Row};
+
+    ghost Value = { Row };
+
+    ghost view = { λ r. record { id = r.id; places = r.places.items } };
+}
+
+impl PageRow {
+    /// The number of the segment.
+    pub(crate) fn id(&self) -> u64
+        ensures { result ≡ self.now.id }
+    {
+        self.id
+    }
+
+    /// How many pages it has.
+    pub(crate) fn len(&self) -> usize
+        ensures { result ≡ length self.now.places }
+    {
+        self.places.len()
+    }
+
+    /// The place of a page.
+    pub(crate) fn place(&self, page: u32) -> u32
+        requires { page < length self.now.places }
+        ensures { result ≡ slice_index_or self.now.places page 0 }
+    {
+        self.places[page as usize]
+    }
+}
+
+/// Where the row of this number stands first.
+fn first_row(rows: &[PageRow], id: u64) -> Option<usize>
+    ensures { result ≡ position (is_row id) rows.now }
+{
+    rows.iter().position(|row| row.id() == id)
+}
+
+/// Where the row of this number stands.
+pub(crate) fn row_of(rows: &[PageRow], id: u64) -> usize
+    requires { IsTrue (list_any (is_row id) rows.now) }
+    ensures { RowStands rows.now id result }
+{
+    match first_row(rows, id) {
+        Some(at) => at,
+        None => 0,
+    }
+}

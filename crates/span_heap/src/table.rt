@@ -1,0 +1,145 @@
+//! The table of pages: which run begins or ends at each page of each segment.
+ghost use Rattle.std.specs.Prelude.{◌≡◌, ◌+◌, ◌-◌, ◌^◌, ◌<◌, ◌≤◌, ◌↔◌, not, [], ◌∷◌, ◌++◌, All, Contains, IsFalse, IsTrue, IsPermutation, filter};
+ghost use Rattle.span_heap.specs.Run.{is_run, begins_at, pages_of};
+ghost use Rattle.span_heap.specs.Runs.{pages_before, pages_behind};
+ghost use Rattle.span_heap.specs.Pick.{pick};
+ghost use Rattle.span_heap.specs.Heap.{LiesWithin, has_segment};
+
+use crate::placed::PlacedRuns;
+use crate::row::{PageRow, row_of};
+use crate::run::Run;
+use std::marker::Model;
+
+/// Segments with their used spans and free runs, each of which is found by its first or last page.
+#[derive(Debug, Drop)]
+pub(crate) struct PageTable {
+    /// In the order in which they came.
+    rows: Vec<PageRow>,
+    /// How many pages of each segment are used.
+    counts: Vec<u32>,
+    runs: PlacedRuns,
+    /// By place: how many pages the free run has that begins there.
+    free_from: Vec<u32>,
+    /// By place: how many pages the free run has that ends there.
+    free_to: Vec<u32>,
+    /// By place: how many pages the used span has that begins there.
+    used_from: Vec<u32>,
+    /// Places that no page has.
+    spare: Vec<u32>,
+}
+
+impl Model for PageTable {
+    ghost use Rattle.std.specs.Prelude.{length, map};
+    ghost use Rattle.span_heap.specs.Placed.{free_of, used_of};
+    ghost use Rattle.span_heap.specs.Table.{shown_row, ArePlaces, HoldsRuns};
+    ghost use Rattle.span_heap.specs.Heap.{Contents, contents};
+
+    ghost Value = { Contents };
+
+    ghost view = { λ t. contents (map shown_row t.rows.items) (used_of t.runs) (free_of t.runs) };
+
+    ghost invariant = { λ t. ArePlaces t.rows.items t.spare.items (length t.runs.runs)
+        × HoldsRuns t.rows.items t.runs t.free_from.items t.free_to.items t.used_from.items t.counts.items };
+}
+
+impl PageTable {
+    /// Takes out a free run.
+    pub(crate) fn take_free(&mut self, run: Run)
+        requires { Contains self.old.free run }
+        ensures free { self.new.free ≡ filter (λ other. not (is_run run other)) self.old.free }
+        ensures used { self.new.used ≡ self.old.used }
+        ensures segments { self.new.segments ≡ self.old.segments }
+    {
+        let at = row_of(self.rows.as_slice(), run.segment);
+        let first = self.rows[at].place(run.first);
+        let last = self.rows[at].place(run.first + (run.pages - 1));
+        self.runs.take_free(first);
+        self.free_from[first as usize] -= run.pages;
+        self.free_to[last as usize] -= run.pages;
+    }
+
+    /// Adds a free run, as the latest.
+    pub(crate) fn add_free(&mut self, run: Run)
+        requires lies { LiesWithin self.old.segments run }
+        requires not_free { All (λ other. IsFalse (begins_at run.segment run.first other)) self.old.free }
+        requires not_used { All (λ other. IsFalse (begins_at run.segment run.first other)) self.old.used }
+        requires small { pages_of self.old.free + run.pages < 2 ^ 32 }
+        ensures free { self.new.free ≡ self.old.free ++ run ∷ [] }
+        ensures used { self.new.used ≡ self.old.used }
+        ensures segments { self.new.segments ≡ self.old.segments }
+    {
+        let at = row_of(self.rows.as_slice(), run.segment);
+        let first = self.rows[at].place(run.first);
+        let last = self.rows[at].place(run.first + (run.pages - 1));
+        self.runs.add_free(first, run);
+        self.free_from[first as usize] += run.pages;
+        self.free_to[last as usize] += run.pages;
+    }
+
+    /// Takes out a used span.
+    pub(crate) fn take_used(&mut self, span: Run)
+        requires { Contains self.old.used span }
+        ensures free { self.new.free ≡ self.old.free }
+        ensures used { IsPermutation self.old.used (span ∷ self.new.used) }
+        ensures segments { self.new.segments ≡ self.old.segments }
+    {
+        let at = row_of(self.rows.as_slice(), span.segment);
+        let first = self.rows[at].place(span.first);
+        self.runs.take_used(first);
+        self.used_from[first as usize] -= span.pages;
+        self.counts[at] -= span.pages;
+    }
+
+    /// Adds a used span.
+    pub(crate) fn add_used(&mut self, span: Run)
+        requires lies { LiesWithin self.old.segments span }
+        requires not_free { All (λ other. IsFalse (begins_at span.segment span.first other)) self.old.free }
+        requires not_used { All (λ other. IsFalse (begins_at span.segment span.first other)) self.old.used }
+        requires small { pages_of self.old.used + span.pages < 2 ^ 32 }
+        ensures free { self.new.free ≡ self.old.free }
+        ensures used { self.new.used ≡ self.old.used ++ span ∷ [] }
+        ensures segments { self.new.segments ≡ self.old.segments }
+    {
+        let at = row_of(self.rows.as_slice(), span.segment);
+        let first = self.rows[at].place(span.first);
+        self.runs.add_used(first, span);
+        self.used_from[first as usize] += span.pages;
+        self.counts[at] += span.pages;
+    }
+
+    /// How many pages the free run has that ends where this span begins, or 0 where there is none.
+    pub(crate) fn pages_before(&self, span: &Run) -> u32
+        requires { LiesWithin self.now.segments span.now }
+        ensures { result ≡ pages_before self.now.free span.now }
+    {
+        let at = row_of(self.rows.as_slice(), span.segment);
+        if span.first == 0 {
+            return 0;
+        }
+        let place = self.rows[at].place(span.first - 1);
+        self.free_to[place as usize]
+    }
+
+    /// How many pages the free run has that begins where this span ends, or 0 where there is none.
+    pub(crate) fn pages_behind(&self, span: &Run) -> u32
+        requires { LiesWithin self.now.segments span.now }
+        ensures { result ≡ pages_behind self.now.free span.now }
+    {
+        let at = row_of(self.rows.as_slice(), span.segment);
+        let end = u64::from(span.first) + u64::from(span.pages);
+        if end >= self.rows[at].len() as u64 {
+            return 0;
+        }
+        let place = self.rows[at].place(end as u32);
+        self.free_from[place as usize]
+    }
+
+    /// The free run that a search for `pages` to `most` pages takes.
+    pub(crate) fn pick(&self, pages: u32, most: u32) -> Option<Run>
+        requires sized { 1 ≤ pages }
+        requires order { pages ≤ most }
+        ensures { result ≡ pick self.now.free pages (most - pages) }
+    {
+        self.runs.pick(pages, most)
+    }
+}
