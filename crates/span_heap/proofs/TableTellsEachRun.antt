@@ -6,7 +6,7 @@ use Rattle.std.proofs.Math.ListN.{get_or-map}
 use Rattle.std.proofs.lemmas.List.{get_or_default, get_or_past, map-append, length-map}
 use Rattle.std.proofs.lemmas.List.Folds.{list_any-from_Any}
 use Rattle.std.proofs.lemmas.List.Quantifiers.{position-Some}
-use Rattle.std.proofs.lemmas.List.Sums.{length-filter, sum_by_push, get_or-le-sum_by}
+use Rattle.std.proofs.lemmas.List.Sums.{sum_by-cons, length-filter, sum_by_push, get_or-le-sum_by}
 use Rattle.std.proofs.lemmas.List.Sorted.{IsPermutation-map, IsPermutation-filter_both, IsPermutation-append_comm}
 use Rattle.std.proofs.lemmas.List.Elements.{All-filter, All-append, All-cons, All-nil, All-map, Contains-get_or}
 use Rattle.std.proofs.lemmas.Bool.{and_parts, and_from, eqb-true, eq-eqb, cases_eq, cases_lt, cases_Bool, both_ways, ne_eqb, and_right}
@@ -14,10 +14,10 @@ use Rattle.free_lists.specs.Lists.{without}
 use Rattle.span_heap.specs.declared.run.Run.{Run}
 use Rattle.span_heap.specs.Run.{lies_in, begins_at, ends_at, is_run, pages_of}
 use Rattle.span_heap.specs.Segment.{Segment}
-use Rattle.span_heap.specs.Heap.{LiesWithin}
+use Rattle.span_heap.specs.Heap.{LiesWithin, has_segment}
 use Rattle.span_heap.specs.Placed.{Placed, run_at, free_of, used_of}
 use Rattle.span_heap.specs.Table.{Row, shown_row, is_row, row_at, width_at, place_at, RowStands, AreApart, ArePlaces, HasKey, stops_at, MarksTell, CountsTell, HoldsRuns}
-use Rattle.span_heap.proofs.Sums.{sum_by-filter, filter_at_most_one}
+use Rattle.span_heap.proofs.Sums.{sum_by-filter, filter_at_most_one, counted, count_by-le-count_by}
 use Rattle.span_heap.proofs.PartitionByCounts.{sum_by-with}
 use Rattle.span_heap.proofs.SegmentsComeAndLeave.{sum_by-filter-le}
 use Rattle.span_heap.proofs.FreeingKeepsThePartition.{filter_none}
@@ -497,3 +497,106 @@ none_begins_past rows runs places id at page distinct stands keys past =
               absurd (omega (arith, past, mine.0, mine.1, eqb-true run.first page parts.1))
           | inr fails ↦ fails
         ]
+
+-- what is seen of rows
+pub any_row : (id : ℕ) (rows : List Row) → has_segment (map shown_row rows) id ≡ list_any (is_row id) rows
+any_row id [] = refl
+any_row id (row ∷ rows) = rw (any_row id rows) refl
+
+pub all_sized : (rows : List Row) (runs : List Run) (places : List ℕ) → All (λ p. HasKey rows (run_at runs p) p) places → All (λ run. 1 ≤ run.pages) (map (run_at runs) places)
+all_sized rows runs places keys = All-map (λ (run : Run). 1 ≤ run.pages) (run_at runs) places (λ k d within. (keys k d within).2)
+
+-- single runs by their marks
+
+count_by-map : {X Y : Type 0} (test : Y → Bool) (f : X → Y) (xs : List X) → count_by test (map f xs) ≡ count_by (λ x. test (f x)) xs
+count_by-map test f [] = refl
+count_by-map test f (x ∷ xs) =
+    sum_by-cons (λ y. cond {A = ℕ} (test y) 1 0) (f x) (map f xs)
+    ∙ (ap {B = ℕ} (λ n. cond (test (f x)) 1 0 + n) (count_by-map test f xs) ∙ sym (sum_by-cons (λ y. cond {A = ℕ} (test (f y)) 1 0) x xs))
+
+filtered_there : {X : Type 0} (test : X → Bool) (xs : List X) (x : X) → Contains (filter test xs) x → Contains xs x
+filtered_there test [] x there = there
+filtered_there test (y ∷ xs) x there = go (test y) (filtered_there test xs x) there
+  where
+    behind : Contains xs x → Contains (y ∷ xs) x
+    behind (k, within, is) = (suc k, omega (arith, within), is)
+
+    go : (b : Bool) → (Contains (filter test xs) x → Contains xs x) → Contains (cond b (y ∷ filter test xs) (filter test xs)) x → Contains (y ∷ xs) x
+    go true rest (zero, within, is) = (zero, omega arith, is)
+    go true rest (suc k, within, is) = behind (rest (k, omega (arith, within), is))
+    go false rest there = behind (rest there)
+
+-- at most one run begins at a page
+pub one_begins : (rows : List Row) (runs : List Run) (places : List ℕ) (id at page : ℕ) → ((i : ℕ) → count_by (is_row i) rows ≤ 1) → RowStands rows id at
+    → All (λ p. HasKey rows (run_at runs p) p) places → count_by (λ other. eqb other (place_at rows at page)) places ≤ 1 → count_by (begins_at id page) (map (run_at runs) places) ≤ 1
+one_begins rows runs places id at page distinct stands keys few =
+    omega (
+      arith,
+      few,
+      count_by-map (begins_at id page) (run_at runs) places,
+      count_by-le-count_by (λ p. HasKey rows (run_at runs p) p) (λ p. begins_at id page (run_at runs p)) (λ other. eqb other (place_at rows at page)) places keys (λ p key begins.
+          let run : Run = run_at runs p in
+          let parts = and_parts (eqb run.segment id) (eqb run.first page) begins in
+          let segment : run.segment ≡ id = eqb-true run.segment id parts.0 in
+          let mine = key_place rows run p at distinct key (record { within = stands.within; numbered = stands.numbered ∙ sym segment }) in
+          eq-eqb p (place_at rows at page) (sym mine.2 ∙ ap (place_at rows at) (eqb-true run.first page parts.1))),
+    )
+
+-- a run that stands in the list has all pages that are marked where it begins
+pub marked_of_run : (rows : List Row) (runs : List Run) (places : List ℕ) (run : Run) (at : ℕ) → ((i : ℕ) → count_by (is_row i) rows ≤ 1) → RowStands rows run.segment at
+    → All (λ p. HasKey rows (run_at runs p) p) places → count_by (λ other. eqb other (place_at rows at run.first)) places ≤ 1 → Contains (map (run_at runs) places) run
+    → pages_of (filter (begins_at run.segment run.first) (map (run_at runs) places)) ≡ run.pages
+marked_of_run rows runs places run at distinct stands keys few there =
+    elim (filter_at_most_one (begins_at run.segment run.first) (map (run_at runs) places) (one_begins rows runs places run.segment at run.first distinct stands keys few)) [
+      | inl none ↦
+          absurd (omega (
+            arith,
+            counted (begins_at run.segment run.first) (map (run_at runs) places) run there (and_from _ _ (eq-eqb run.segment run.segment refl) (eq-eqb run.first run.first refl)),
+            length-filter (begins_at run.segment run.first) (map (run_at runs) places),
+            ap {B = ℕ} length none,
+          ))
+      | inr (other, one, begins) ↦
+          let found = found_run rows runs places run at distinct keys there stands in
+          let taken = taken_out rows runs places run at found few in
+          let rest = filter (begins_at run.segment run.first) (map (run_at runs) (without places (place_at rows at run.first))) in
+          omega (
+            arith,
+            part_of (begins_at run.segment run.first) (map (run_at runs) places) _ run taken,
+            ap {B = ℕ} (λ b. cond b run.pages 0) (and_from _ _ (eq-eqb run.segment run.segment refl) (eq-eqb run.first run.first refl)),
+            no_more (begins_at run.segment run.first) (map (run_at runs) places) (map (run_at runs) (without places (place_at rows at run.first))) run taken
+                (and_from _ _ (eq-eqb run.segment run.segment refl) (eq-eqb run.first run.first refl)) (one_begins rows runs places run.segment at run.first distinct stands keys few),
+          )
+    ]
+  where
+    no_more : (test : Run → Bool) (more fewer : List Run) (one : Run) → IsPermutation more (one ∷ fewer) → test one ≡ true → count_by test more ≤ 1 → pages_of (filter test fewer) ≡ 0
+    no_more test more fewer one taken passes few =
+        elim (filter_at_most_one test fewer (omega (arith, few, sum_by-with (λ x. cond {A = ℕ} (test x) 1 0) more fewer one taken))) [
+          | inl none ↦ ap {B = ℕ} pages_of none
+          | inr (x, two, also) ↦
+              absurd (omega (
+                arith,
+                few,
+                sum_by-with (λ x. cond {A = ℕ} (test x) 1 0) more fewer one taken,
+                ap {B = ℕ} (λ b. cond b 1 0) passes,
+                length-filter test fewer,
+                ap {B = ℕ} length two,
+              ))
+        ]
+
+-- and a mark tells of a run
+pub run_of_mark : (rows : List Row) (runs : List Run) (places : List ℕ) (run : Run) (at : ℕ) → ((i : ℕ) → count_by (is_row i) rows ≤ 1) → RowStands rows run.segment at
+    → All (λ p. HasKey rows (run_at runs p) p) places → count_by (λ other. eqb other (place_at rows at run.first)) places ≤ 1 → 1 ≤ run.pages
+    → pages_of (filter (begins_at run.segment run.first) (map (run_at runs) places)) ≡ run.pages → Contains (map (run_at runs) places) run
+run_of_mark rows runs places run at distinct stands keys few sized marked =
+    elim (filter_at_most_one (begins_at run.segment run.first) (map (run_at runs) places) (one_begins rows runs places run.segment at run.first distinct stands keys few)) [
+      | inl none ↦ absurd (omega (arith, sized, marked, ap {B = ℕ} pages_of none))
+      | inr (other, one, begins) ↦
+          let parts = and_parts (eqb other.segment run.segment) (eqb other.first run.first) begins in
+          let pages : other.pages ≡ run.pages = omega (arith, marked, ap {B = ℕ} pages_of one) in
+          let at_all : ℕ → ℕ → ℕ → Run = λ s f n. record { segment = s; first = f; pages = n } in
+          let same : other ≡ run =
+          ap (λ s. at_all s other.first other.pages) (eqb-true other.segment run.segment parts.0)
+          ∙ (ap (λ f. at_all run.segment f other.pages) (eqb-true other.first run.first parts.1) ∙ ap (at_all run.segment run.first) pages) in
+          filtered_there (begins_at run.segment run.first) (map (run_at runs) places) run
+          (subst (λ xs. Contains xs run) (sym one) (zero, omega arith, same))
+    ]

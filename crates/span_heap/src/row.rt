@@ -44,8 +44,8 @@ impl PageRow {
     }
 }
 
-/// Where the row of this number stands first.
-fn first_row(rows: &[PageRow], id: u64) -> Option<usize>
+/// Where the row of this number stands, if it does.
+pub(crate) fn first_row(rows: &[PageRow], id: u64) -> Option<usize>
     ensures { result ≡ position (is_row id) rows.now }
 {
     rows.iter().position(|row| row.id() == id)
@@ -60,4 +60,11 @@ pub(crate) fn row_of(rows: &[PageRow], id: u64) -> usize
         Some(at) => at,
         None => 0,
     }
+}
+
+/// Whether a row of this number is there.
+pub(crate) fn has_row(rows: &[PageRow], id: u64) -> bool
+    ensures { result ≡ list_any (is_row id) rows.now }
+{
+    rows.iter().any(|row| row.id() == id)
 }

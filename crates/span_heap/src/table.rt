@@ -3,10 +3,12 @@ ghost use Rattle.std.specs.Prelude.{◌≡◌, ◌+◌, ◌-◌, ◌^◌, ◌<�
 ghost use Rattle.span_heap.specs.Run.{is_run, begins_at, pages_of};
 ghost use Rattle.span_heap.specs.Runs.{pages_before, pages_behind};
 ghost use Rattle.span_heap.specs.Pick.{pick};
+ghost use Rattle.span_heap.specs.Segment.{pages_in};
 ghost use Rattle.span_heap.specs.Heap.{LiesWithin, has_segment};
+ghost use Rattle.span_heap.specs.Changes.{NoneIn};
 
 use crate::placed::PlacedRuns;
-use crate::row::{PageRow, row_of};
+use crate::row::{PageRow, first_row, has_row, row_of};
 use crate::run::Run;
 use std::marker::Model;
 
@@ -141,5 +143,39 @@ impl PageTable {
         ensures { result ≡ pick self.now.free pages (most - pages) }
     {
         self.runs.pick(pages, most)
+    }
+
+    /// Whether this is one of the used spans.
+    pub(crate) fn has(&self, span: &Run) -> bool
+        ensures { IsTrue result ↔ Contains self.now.used span.now }
+    {
+        let Some(at) = first_row(self.rows.as_slice(), span.segment) else {
+            return false;
+        };
+        if span.pages == 0 {
+            return false;
+        }
+        if span.first as usize >= self.rows[at].len() {
+            return false;
+        }
+        let place = self.rows[at].place(span.first);
+        self.used_from[place as usize] == span.pages
+    }
+
+    /// Whether one of the segments has this number.
+    pub(crate) fn has_segment(&self, id: u64) -> bool
+        ensures { result ≡ has_segment self.now.segments id }
+    {
+        has_row(self.rows.as_slice(), id)
+    }
+
+    /// How many pages of a segment are used.
+    pub(crate) fn used_pages(&self, id: u64) -> u32
+        requires { IsTrue (has_segment self.now.segments id) }
+        ensures pages { result ≡ pages_in id self.now.used }
+        ensures none { (result ≡ 0) ↔ NoneIn id self.now.used }
+    {
+        let at = row_of(self.rows.as_slice(), id);
+        self.counts[at]
     }
 }
