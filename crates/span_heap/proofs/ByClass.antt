@@ -105,23 +105,23 @@ later m run n slack [] older low picked all = rw (append-nil older) picked.1
 later m run n slack (other ∷ newer) older low picked all =
     rw (← append_assoc older (other ∷ []) newer)
     (later m run n slack newer (older ++ other ∷ []) low
-      (elim (cases_Bool (fits n slack other)) [
-        | inl fit ↦
-            let more = All-head (λ (x : Run). fits n slack x ≡ true → m < min x.pages 256) other newer all fit in
-            let same = skips_longer older other n slack (omega (arith, more, picked.0)) in
-            (same.0 ∙ picked.0, same.1 ∙ picked.1)
-        | inr unfit ↦
-            let same = skips_unfitting older other n slack unfit in
-            (same.0 ∙ picked.0, same.1 ∙ picked.1)
-      ])
-      (All-tail (λ (x : Run). fits n slack x ≡ true → m < min x.pages 256) other newer all))
+    (elim (cases_Bool (fits n slack other)) [
+      | inl fit ↦
+          let more = All-head (λ (x : Run). fits n slack x ≡ true → m < min x.pages 256) other newer all fit in
+          let same = skips_longer older other n slack (omega (arith, more, picked.0)) in
+          (same.0 ∙ picked.0, same.1 ∙ picked.1)
+      | inr unfit ↦
+          let same = skips_unfitting older other n slack unfit in
+          (same.0 ∙ picked.0, same.1 ∙ picked.1)
+    ])
+    (All-tail (λ (x : Run). fits n slack x ≡ true → m < min x.pages 256) other newer all))
 
 pick-cut : (run : Run) (n slack : ℕ) (older newer : List Run) → fits n slack run ≡ true → All (λ other. fits n slack other ≡ true → min run.pages 256 ≤ min other.pages 256) older
     → All (λ other. fits n slack other ≡ true → min run.pages 256 < min other.pages 256) newer → pick (older ++ run ∷ newer) n slack ≡ Some run
 pick-cut run n slack older newer fit before behind =
     rw (← append_assoc older (run ∷ []) newer)
     (later (min run.pages 256) run n slack newer (older ++ run ∷ []) (omega arith)
-      (takes_fitting older run n slack fit (least_of_all (min run.pages 256) older n slack (omega arith) before)) behind)
+    (takes_fitting older run n slack fit (least_of_all (min run.pages 256) older n slack (omega arith) before)) behind)
 
 -- where a filtered list is cut, the list is cut
 pub filter_cut : (test : ℕ → Bool) (xs older newer : List ℕ) (y : ℕ) → filter test xs ≡ older ++ y ∷ newer
@@ -178,17 +178,17 @@ no_less : (lists : Classes) (runs : List Run) (order : List ℕ) (n slack c : �
     → All (λ place. fits n slack (run_at runs place) ≡ true → c ≤ min (run_at runs place).pages 256) order
 no_less lists runs order n slack c by_class some most empty =
     λ k d within fit.
-        elim (cases_lt (min (run_at runs (get_or order k d)).pages 256) c) [
-          | inr high ↦ high
-          | inl low ↦
-              let parts = and_parts _ _ fit in
-              let same : min (run_at runs (get_or order k d)).pages 256 ≡ (run_at runs (get_or order k d)).pages = omega (arith, low, most) in
-              let from = leb-true n (run_at runs (get_or order k d)).pages parts.0 in
-              let to = leb-true (run_at runs (get_or order k d)).pages (n + slack) parts.1 in
-              let is_empty = sym (by_class (min (run_at runs (get_or order k d)).pages 256)) ∙ empty (min (run_at runs (get_or order k d)).pages 256) (omega (arith, same, from)) (omega (arith, same, to)) low in
-              let none = All-passed (λ p. ⊥) (λ p. eqb (min (run_at runs p).pages 256) (min (run_at runs (get_or order k d)).pages 256)) order (subst (All (λ p. ⊥)) (sym is_empty) (All-nil (λ p. ⊥))) in
-              absurd (none k d within (eq-eqb _ _ refl))
-        ]
+    elim (cases_lt (min (run_at runs (get_or order k d)).pages 256) c) [
+      | inr high ↦ high
+      | inl low ↦
+          let parts = and_parts _ _ fit in
+          let same : min (run_at runs (get_or order k d)).pages 256 ≡ (run_at runs (get_or order k d)).pages = omega (arith, low, most) in
+          let from = leb-true n (run_at runs (get_or order k d)).pages parts.0 in
+          let to = leb-true (run_at runs (get_or order k d)).pages (n + slack) parts.1 in
+          let is_empty = sym (by_class (min (run_at runs (get_or order k d)).pages 256)) ∙ empty (min (run_at runs (get_or order k d)).pages 256) (omega (arith, same, from)) (omega (arith, same, to)) low in
+          let none = All-passed (λ p. ⊥) (λ p. eqb (min (run_at runs p).pages 256) (min (run_at runs (get_or order k d)).pages 256)) order (subst (All (λ p. ⊥)) (sym is_empty) (All-nil (λ p. ⊥))) in
+          absurd (none k d within (eq-eqb _ _ refl))
+    ]
 
 pub picks : (lists : Classes) (runs : List Run) (order : List ℕ) (n slack c place : ℕ) (older newer : List ℕ) → IsByClass lists runs order → 1 ≤ n → 1 ≤ c → c ≤ 256
     → ((k : ℕ) → n ≤ k → k ≤ n + slack → k < c → list_of lists k ≡ []) → list_of lists c ≡ older ++ place ∷ newer
@@ -201,17 +201,17 @@ picks lists runs order n slack c place older newer by_class some one most empty 
     let least = subst (All (λ p. fits n slack (run_at runs p) ≡ true → c ≤ min (run_at runs p).pages 256)) cut.2 (no_less lists runs order n slack c by_class some most empty) in
     let before = All-front (λ p. fits n slack (run_at runs p) ≡ true → c ≤ min (run_at runs p).pages 256) cut.0 (place ∷ cut.1) least in
     let behind = All-tail (λ p. fits n slack (run_at runs p) ≡ true → c ≤ min (run_at runs p).pages 256) place cut.1
-        (All-back (λ p. fits n slack (run_at runs p) ≡ true → c ≤ min (run_at runs p).pages 256) cut.0 (place ∷ cut.1) least) in
+    (All-back (λ p. fits n slack (run_at runs p) ≡ true → c ≤ min (run_at runs p).pages 256) cut.0 (place ∷ cut.1) least) in
     let others = All-passed (λ p. fits n slack (run_at runs p) ≡ false) test cut.1 (subst (All (λ p. fits n slack (run_at runs p) ≡ false)) (sym cut.3) unfit) in
     rw (cut.2, map-append (run_at runs) cut.0 (place ∷ cut.1))
     (pick-cut (run_at runs place) n slack (map (run_at runs) cut.0) (map (run_at runs) cut.1) (fit of_class)
-      (All-map (λ (other : Run). fits n slack other ≡ true → min (run_at runs place).pages 256 ≤ min other.pages 256) (run_at runs) cut.0
-        (λ k d within e. omega (arith, of_class, before k d within e)))
-      (All-map (λ (other : Run). fits n slack other ≡ true → min (run_at runs place).pages 256 < min other.pages 256) (run_at runs) cut.1
-        (λ k d within e. elim (cases_eq (min (run_at runs (get_or cut.1 k d)).pages 256) c) [
-          | inl same ↦ absurd (both_ways _ (others k d within (eq-eqb _ _ same)) e)
-          | inr differs ↦ omega (arith, of_class, behind k d within e, differs)
-        ])))
+    (All-map (λ (other : Run). fits n slack other ≡ true → min (run_at runs place).pages 256 ≤ min other.pages 256) (run_at runs) cut.0
+    (λ k d within e. omega (arith, of_class, before k d within e)))
+    (All-map (λ (other : Run). fits n slack other ≡ true → min (run_at runs place).pages 256 < min other.pages 256) (run_at runs) cut.1
+    (λ k d within e. elim (cases_eq (min (run_at runs (get_or cut.1 k d)).pages 256) c) [
+      | inl same ↦ absurd (both_ways _ (others k d within (eq-eqb _ _ same)) e)
+      | inr differs ↦ omega (arith, of_class, behind k d within e, differs)
+    ])))
 
 pub nothing_picked : (lists : Classes) (runs : List Run) (order : List ℕ) (n slack : ℕ) → IsByClass lists runs order → 1 ≤ n
     → ((k : ℕ) → n ≤ k → k ≤ n + slack → k < 256 → list_of lists k ≡ []) → All (λ other. fits n slack (run_at runs other) ≡ false) (list_of lists 256)
@@ -219,13 +219,13 @@ pub nothing_picked : (lists : Classes) (runs : List Run) (order : List ℕ) (n s
 nothing_picked lists runs order n slack by_class some empty unfit =
     let least = no_less lists runs order n slack 256 by_class some (omega arith) empty in
     let others = All-passed (λ p. fits n slack (run_at runs p) ≡ false) (λ p. eqb (min (run_at runs p).pages 256) 256) order
-        (subst (All (λ p. fits n slack (run_at runs p) ≡ false)) (by_class 256) unfit) in
+    (subst (All (λ p. fits n slack (run_at runs p) ≡ false)) (by_class 256) unfit) in
     (pick-none (map (run_at runs) order) n slack).1
     (All-map (λ (other : Run). fits n slack other ≡ false) (run_at runs) order
-      (λ k d within. elim (cases_Bool (fits n slack (run_at runs (get_or order k d)))) [
-        | inr unfits ↦ unfits
-        | inl fit ↦ others k d within (eq-eqb _ _ (omega (arith, least k d within fit)))
-      ]))
+    (λ k d within. elim (cases_Bool (fits n slack (run_at runs (get_or order k d)))) [
+      | inr unfits ↦ unfits
+      | inl fit ↦ others k d within (eq-eqb _ _ (omega (arith, least k d within fit)))
+    ]))
 
 -- a run of its class below 256 fits where that class does
 pub fits_exact : (runs : List Run) (n slack c place : ℕ) → n ≤ c → c ≤ n + slack → c < 256 → min (run_at runs place).pages 256 ≡ c → fits n slack (run_at runs place) ≡ true

@@ -9,3 +9,4 @@ pub mod UsedPagesAreCounted
 pub mod ByClass
 pub mod PlacedRunsKeepTheirPlaces
 pub mod TableTellsEachRun
+pub mod SegmentsJoinTheTable

@@ -1,5 +1,5 @@
 -- The lists by class beside the order of all places: each change of the one is a change of the other.
-use Rattle.std.proofs.Common.{◌≡◌, ◌≢◌, ℕ, zero, suc, ◌+◌, ◌-◌, ◌<◌, ◌≤◌, min, Bool, true, false, not, ◌&&◌, cond, eqb, List, [], ◌∷◌, ◌++◌, length, map, get_or, set, refl, sym, ◌∙◌, ap, subst, arith, ◌⊎◌, inl, inr, get_or-set_other, get_or-set_same, length-set}
+use Rattle.std.proofs.Common.{◌≡◌, ◌≢◌, ℕ, zero, suc, ◌+◌, ◌-◌, ◌<◌, ◌≤◌, min, Bool, true, false, not, ◌&&◌, cond, eqb, List, [], ◌∷◌, ◌++◌, length, map, take, replicate, get_or, set, refl, sym, ◌∙◌, ap, subst, arith, ◌⊎◌, inl, inr, get_or-set_other, get_or-set_same, length-set}
 use Rattle.std.specs.List.{filter, All, Contains, count_by}
 use Rattle.std.proofs.lemmas.List.Elements.{filter-append, All-head, All-tail, All-filter, All-append, All-cons, All-nil, Contains-append_right}
 use Rattle.std.proofs.lemmas.List.{append-nil, get_or_default}
@@ -51,7 +51,7 @@ pub IsByClass-stored : (lists : Classes) (runs : List Run) (order : List ℕ) (p
     → IsByClass lists (set runs place run) order
 IsByClass-stored lists runs order place run by_class away = λ c.
     by_class c ∙ filter_same (λ p. eqb (min (run_at runs p).pages 256) c) (λ p. eqb (min (run_at (set runs place run) p).pages 256) c) order
-      (λ k d within. ap (λ (r : Run). eqb (min r.pages 256) c) (sym (get_or-set_other runs place (get_or order k d) run (record { segment = 0; first = 0; pages = 0 }) (away k d within))))
+    (λ k d within. ap (λ (r : Run). eqb (min r.pages 256) c) (sym (get_or-set_other runs place (get_or order k d) run (record { segment = 0; first = 0; pages = 0 }) (away k d within))))
 
 -- what the free runs are seen as, after a place left: no other place has its run
 pub runs_removed : (runs : List Run) (order : List ℕ) (place : ℕ) → All (λ p. run_at runs p ≡ run_at runs place → p ≡ place) order
@@ -64,7 +64,7 @@ runs_removed runs (p ∷ order) place only =
           rw (eq-eqb p place same, it) (runs_removed runs order place (All-tail (λ q. run_at runs q ≡ run_at runs place → q ≡ place) p order only))
       | inr other ↦
           let not_it : is_run (run_at runs place) (run_at runs p) ≡ false =
-              false_from_ne_true _ (λ e. other (All-head (λ q. run_at runs q ≡ run_at runs place → q ≡ place) p order only (is_run-true (run_at runs place) (run_at runs p) e))) in
+          false_from_ne_true _ (λ e. other (All-head (λ q. run_at runs q ≡ run_at runs place → q ≡ place) p order only (is_run-true (run_at runs place) (run_at runs p) e))) in
           rw (ne_eqb p place other, not_it)
           (ap (λ rest. run_at runs p ∷ rest) (runs_removed runs order place (All-tail (λ q. run_at runs q ≡ run_at runs place → q ≡ place) p order only)))
     ]
@@ -285,3 +285,44 @@ class_within lists order runs listed ordered c placed =
 pub class_distinct : (lists order : Classes) (runs : List Run) (listed ordered c : ℕ) → IsPlaced lists order runs listed ordered → IsDistinct (list_of lists c)
 class_distinct lists order runs listed ordered c placed =
     rw (placed.by_class c) (λ p. omega (arith, fewer (λ q. eqb (min (run_at runs q).pages 256) c) (list_of order 1) p, placed.once p))
+
+-- more places
+pub IsPlaced-reached : (lists lists' order order' : Classes) (runs runs' : List Run) (listed listed' ordered ordered' : ℕ) → IsPlaced lists order runs listed ordered
+    → lists'.places ≡ listed' → order'.places ≡ ordered' → length runs' ≤ listed' → length runs' ≤ ordered'
+    → ((c : ℕ) → list_of lists' c ≡ list_of lists c) → ((c : ℕ) → list_of order' c ≡ list_of order c)
+    → length runs ≤ length runs' → ((p : ℕ) → run_at runs' p ≡ run_at runs p) → IsPlaced lists' order' runs' listed' ordered'
+IsPlaced-reached lists lists' order order' runs runs' listed listed' ordered ordered' placed counted_lists counted_order lists_reach order_reach same_lists same_order longer read =
+    record {
+      lists_places = counted_lists;
+      order_places = counted_order;
+      lists_reach = lists_reach;
+      order_reach = order_reach;
+      by_class = λ c.
+          same_lists c ∙ (placed.by_class c
+          ∙ (filter_same (λ p. eqb (min (run_at runs p).pages 256) c) (λ p. eqb (min (run_at runs' p).pages 256) c) (list_of order 1)
+          (λ k d within. ap (λ (r : Run). eqb (min r.pages 256) c) (sym (read (get_or (list_of order 1) k d))))
+          ∙ ap (filter (λ p. eqb (min (run_at runs' p).pages 256) c)) (sym (same_order 1))));
+      two_lists = λ c one two. same_order c ∙ placed.two_lists c one two;
+      free_within = subst (All (λ p. p < length runs')) (sym (same_order 1)) (λ k d within. omega (arith, placed.free_within k d within, longer));
+      used_within = subst (All (λ p. p < length runs')) (sym (same_order 2)) (λ k d within. omega (arith, placed.used_within k d within, longer));
+      once = λ p. rw (same_order 1, same_order 2) (placed.once p);
+    }
+
+-- a blank run under each new place reads as no run
+pub blank_read : (runs : List Run) (n place : ℕ) → run_at (runs ++ replicate n (record { segment = 0; first = 0; pages = 0 })) place ≡ run_at runs place
+blank_read [] zero place = refl
+blank_read [] (suc n) zero = refl
+blank_read [] (suc n) (suc place) = blank_read [] n place
+blank_read (run ∷ runs) n zero = refl
+blank_read (run ∷ runs) n (suc place) = blank_read runs n place
+
+pub take_whole : (n : ℕ) (runs : List Run) → length runs ≤ n → take n runs ≡ runs
+take_whole zero [] reach = refl
+take_whole zero (run ∷ runs) reach = absurd (omega (arith, reach))
+take_whole (suc n) [] reach = refl
+take_whole (suc n) (run ∷ runs) reach = ap (λ rest. run ∷ rest) (take_whole n runs (omega (arith, reach)))
+
+pub blank_pads : (runs runs' : List Run) (n : ℕ) → length runs ≤ n → runs' ≡ take n runs ++ replicate (n - length runs) (record { segment = 0; first = 0; pages = 0 })
+    → (place : ℕ) → run_at runs' place ≡ run_at runs place
+blank_pads runs runs' n reach is place =
+    ap (λ xs. run_at xs place) (is ∙ ap (λ xs. xs ++ replicate (n - length runs) (record { segment = 0; first = 0; pages = 0 })) (take_whole n runs reach)) ∙ blank_read runs (n - length runs) place

@@ -16,7 +16,7 @@ use Rattle.span_heap.specs.Run.{lies_in, begins_at, ends_at, is_run, pages_of}
 use Rattle.span_heap.specs.Segment.{Segment}
 use Rattle.span_heap.specs.Heap.{LiesWithin, has_segment}
 use Rattle.span_heap.specs.Placed.{Placed, run_at, free_of, used_of}
-use Rattle.span_heap.specs.Table.{Row, shown_row, is_row, row_at, width_at, place_at, RowStands, AreApart, ArePlaces, HasKey, stops_at, MarksTell, CountsTell, HoldsRuns}
+use Rattle.span_heap.specs.Table.{Row, shown_row, is_row, row_at, width_at, place_at, RowStands, AreApart, ArePlaces, HasKey, stops_at, MarksTell, CountsTell, IsClear, HoldsRuns}
 use Rattle.span_heap.proofs.Sums.{sum_by-filter, filter_at_most_one, counted, count_by-le-count_by}
 use Rattle.span_heap.proofs.PartitionByCounts.{sum_by-with}
 use Rattle.span_heap.proofs.SegmentsComeAndLeave.{sum_by-filter-le}
@@ -297,7 +297,7 @@ left_out rows runs places run at distinct keys stands found =
     let key : HasKey rows (run_at runs place) place = subst (λ r. HasKey rows r place) (sym found.is) (at, stands, found.sized, found.fits, refl) in
     subst (λ r. map (run_at runs) (without places place) ≡ filter (λ other. not (is_run r other)) (map (run_at runs) places)) found.is
     (runs_removed runs places place (λ k d within e.
-        same_key rows (run_at runs (get_or places k d)) (run_at runs place) (get_or places k d) place distinct (keys k d within) key (ap (λ (r : Run). r.segment) e) (ap (λ (r : Run). r.first) e)))
+    same_key rows (run_at runs (get_or places k d)) (run_at runs place) (get_or places k d) place distinct (keys k d within) key (ap (λ (r : Run). r.segment) e) (ap (λ (r : Run). r.first) e)))
 
 -- a run comes under a new place
 
@@ -324,6 +324,11 @@ key_added rows runs places place run low new key keys =
     All-append P places (place ∷ []) (keys_same rows runs places place run new keys)
     (All-cons P place [] (subst (λ r. HasKey rows r place) (sym (get_or-set_same runs place run (record { segment = 0; first = 0; pages = 0 }) low)) key) (All-nil P))
 
+-- only the mark of a page's place changes
+IsClear-set : (rows : List Row) (marks : List ℕ) (at page n : ℕ) → page < width_at rows at → IsClear rows marks → IsClear rows (set marks (place_at rows at page) n)
+IsClear-set rows marks at page n wide clear = λ place away.
+    get_or-set_other marks (place_at rows at page) place n 0 (λ e. away at page wide (sym e)) ∙ clear place away
+
 -- what holds of the runs, through each change
 
 pub HoldsRuns-free_taken : (rows : List Row) (spare : List ℕ) (size : ℕ) (placed placed' : Placed) (free_from free_to used_from counts : List ℕ) (run : Run) (at n m : ℕ) → ArePlaces rows spare size
@@ -341,9 +346,12 @@ HoldsRuns-free_taken rows spare size placed placed' free_from free_to used_from 
     let wide_last : run.first + (run.pages - 1) < width_at rows at = omega (arith, found.sized, found.fits) in
     subst (λ f. Q f placed'.used placed'.runs) (sym free) (subst (λ u. Q (without placed.free first) u placed'.runs) (sym used) (subst (λ r. Q (without placed.free first) placed.used r) (sym runs)
     (record {
-      free_from_size = length-set free_from first n ∙ holds.free_from_size;
-      free_to_size = length-set free_to last m ∙ holds.free_to_size;
+      free_from_size = omega (arith, length-set free_from first n, holds.free_from_size);
+      free_from_clear = IsClear-set rows free_from at run.first n wide holds.free_from_clear;
+      free_to_size = omega (arith, length-set free_to last m, holds.free_to_size);
+      free_to_clear = IsClear-set rows free_to at (run.first + (run.pages - 1)) m wide_last holds.free_to_clear;
       used_from_size = holds.used_from_size;
+      used_from_clear = holds.used_from_clear;
       counts_size = holds.counts_size;
       once = λ p. omega (arith, fewer (λ other. not (eqb other first)) placed.free p, holds.once p);
       free_keys = All-filter (λ other. not (eqb other first)) (λ p. HasKey rows (run_at placed.runs p) p) placed.free holds.free_keys;
@@ -370,8 +378,11 @@ HoldsRuns-used_taken rows spare size placed placed' free_from free_to used_from 
     subst (λ f. Q f placed'.used placed'.runs) (sym free) (subst (λ u. Q placed.free u placed'.runs) (sym used) (subst (λ r. Q placed.free (without placed.used first) r) (sym runs)
     (record {
       free_from_size = holds.free_from_size;
+      free_from_clear = holds.free_from_clear;
       free_to_size = holds.free_to_size;
-      used_from_size = length-set used_from first n ∙ holds.used_from_size;
+      free_to_clear = holds.free_to_clear;
+      used_from_size = omega (arith, length-set used_from first n, holds.used_from_size);
+      used_from_clear = IsClear-set rows used_from at run.first n wide holds.used_from_clear;
       counts_size = length-set counts at m ∙ holds.counts_size;
       once = λ p. omega (arith, fewer (λ other. not (eqb other first)) placed.used p, holds.once p);
       free_keys = holds.free_keys;
@@ -401,9 +412,12 @@ HoldsRuns-free_added rows spare size placed placed' free_from free_to used_from 
     let used_now : map (run_at now) placed.used ≡ used_of placed = runs_same placed.runs placed.used first run not_used in
     subst (λ f. Q f placed'.used placed'.runs) (sym free) (subst (λ u. Q (placed.free ++ first ∷ []) u placed'.runs) (sym used) (subst (λ r. Q (placed.free ++ first ∷ []) placed.used r) (sym runs)
     (record {
-      free_from_size = length-set free_from first n ∙ (holds.free_from_size ∙ sym (length-set placed.runs first run));
-      free_to_size = length-set free_to last m ∙ (holds.free_to_size ∙ sym (length-set placed.runs first run));
-      used_from_size = holds.used_from_size ∙ sym (length-set placed.runs first run);
+      free_from_size = omega (arith, length-set free_from first n, length-set placed.runs first run, holds.free_from_size);
+      free_from_clear = IsClear-set rows free_from at run.first n wide holds.free_from_clear;
+      free_to_size = omega (arith, length-set free_to last m, length-set placed.runs first run, holds.free_to_size);
+      free_to_clear = IsClear-set rows free_to at (run.first + (run.pages - 1)) m wide_last holds.free_to_clear;
+      used_from_size = omega (arith, length-set placed.runs first run, holds.used_from_size);
+      used_from_clear = holds.used_from_clear;
       counts_size = holds.counts_size;
       once = λ p. omega (arith, once_more placed.free placed.used first holds.once not_free not_used p, sum_by_push (λ other. cond {A = ℕ} (eqb other p) 1 0) placed.free first);
       free_keys = key_added rows placed.runs placed.free first run low not_free (at, stands, sized, fits, refl) holds.free_keys;
@@ -434,9 +448,12 @@ HoldsRuns-used_added rows spare size placed placed' free_from free_to used_from 
     let used_now : map (run_at now) (placed.used ++ first ∷ []) ≡ used_of placed ++ run ∷ [] = run_added placed.runs placed.used first run low not_used in
     subst (λ f. Q f placed'.used placed'.runs) (sym free) (subst (λ u. Q placed.free u placed'.runs) (sym used) (subst (λ r. Q placed.free (placed.used ++ first ∷ []) r) (sym runs)
     (record {
-      free_from_size = holds.free_from_size ∙ sym (length-set placed.runs first run);
-      free_to_size = holds.free_to_size ∙ sym (length-set placed.runs first run);
-      used_from_size = length-set used_from first n ∙ (holds.used_from_size ∙ sym (length-set placed.runs first run));
+      free_from_size = omega (arith, length-set placed.runs first run, holds.free_from_size);
+      free_from_clear = holds.free_from_clear;
+      free_to_size = omega (arith, length-set placed.runs first run, holds.free_to_size);
+      free_to_clear = holds.free_to_clear;
+      used_from_size = omega (arith, length-set used_from first n, length-set placed.runs first run, holds.used_from_size);
+      used_from_clear = IsClear-set rows used_from at run.first n wide holds.used_from_clear;
       counts_size = length-set counts at m ∙ holds.counts_size;
       once = λ p. omega (arith, once_more placed.free placed.used first holds.once not_free not_used p, sum_by_push (λ other. cond {A = ℕ} (eqb other p) 1 0) placed.used first);
       free_keys = keys_same rows placed.runs placed.free first run not_free holds.free_keys;
@@ -468,7 +485,7 @@ row_small rows spare size at places within =
       ap {B = ℕ} (λ (s : Segment). s.pages) here,
     )
 
-all_false : (test : Run → Bool) (runs : List Run) → All (λ run. test run ≡ false) runs → pages_of (filter test runs) ≡ 0
+pub all_false : (test : Run → Bool) (runs : List Run) → All (λ run. test run ≡ false) runs → pages_of (filter test runs) ≡ 0
 all_false test runs none = ap {B = ℕ} pages_of (filter_none test runs none)
 
 -- no run ends where a segment begins
@@ -476,9 +493,9 @@ pub none_ends_at_0 : (rows : List Row) (runs : List Run) (places : List ℕ) (id
 none_ends_at_0 rows runs places id keys =
     all_false (ends_at id 0) (map (run_at runs) places)
     (All-map (λ run. ends_at id 0 run ≡ false) (run_at runs) places (λ k d within.
-        let run : Run = run_at runs (get_or places k d) in
-        let (at, stands, sized, fits, is) = keys k d within in
-        and_right (lies_in id run) _ (ne_eqb (run.first + run.pages) 0 (λ e. omega (arith, e, sized)))))
+    let run : Run = run_at runs (get_or places k d) in
+    let (at, stands, sized, fits, is) = keys k d within in
+    and_right (lies_in id run) _ (ne_eqb (run.first + run.pages) 0 (λ e. omega (arith, e, sized)))))
 
 -- and none begins where one ends
 pub none_begins_past : (rows : List Row) (runs : List Run) (places : List ℕ) (id at page : ℕ) → ((i : ℕ) → count_by (is_row i) rows ≤ 1) → RowStands rows id at

@@ -1,5 +1,6 @@
 -- The table of a heap's pages: each page has a place, and the place tells which run begins or ends there.
-use Rattle.std.specs.Prelude.{◌≡◌, ℕ, ◌+◌, ◌^◌, ◌<◌, ◌≤◌, Bool, ◌==◌, List, [], length, slice_index_or, map, All, Contains, filter, count_by}
+use Rattle.std.specs.Prelude.{◌≡◌, ◌≢◌, ℕ, ◌+◌, ◌^◌, ◌<◌, ◌≤◌, Bool, ◌==◌, List, [], ◌++◌, drop, length, slice_index_or, map, All, Contains, filter, count_by}
+use Rattle.std.specs.List.{range_with_len}
 use Rattle.span_heap.specs.declared.run.Run.{Run}
 use Rattle.span_heap.specs.Run.{lies_in, begins_at, ends_at, pages_of}
 use Rattle.span_heap.specs.Segment.{Segment}
@@ -70,11 +71,25 @@ MarksTell rows marks test runs =
 abbrev pub CountsTell : List Row → List ℕ → List Run → Type 0
 CountsTell rows counts used = (at : ℕ) → at < length rows → slice_index_or counts at 0 ≡ pages_of (filter (lies_in (row_at rows at).id) used)
 
--- Each run is kept under the place of its first page, no place has two, and the marks and counts tell of the runs.
+-- the mark of a place that no page has is 0
+abbrev pub IsClear : List Row → List ℕ → Type 0
+IsClear rows marks =
+    (place : ℕ) → ((at page : ℕ) → page < width_at rows at → place_at rows at page ≢ place) → slice_index_or marks place 0 ≡ 0
+
+-- the marks are as before, over at least as many places
+pub record Widens (old new : List ℕ) : Type 0 where
+  pub reach : length old ≤ length new
+  pub read : (place : ℕ) → slice_index_or new place 0 ≡ slice_index_or old place 0
+
+-- Each run is kept under the place of its first page, no place has two, and the marks and counts tell of the runs. A place
+-- that no page has is unmarked.
 pub record HoldsRuns (rows : List Row) (placed : Placed) (free_from free_to used_from counts : List ℕ) : Type 0 where
-  pub free_from_size : length free_from ≡ length placed.runs
-  pub free_to_size : length free_to ≡ length placed.runs
-  pub used_from_size : length used_from ≡ length placed.runs
+  pub free_from_size : length placed.runs ≤ length free_from
+  pub free_from_clear : IsClear rows free_from
+  pub free_to_size : length placed.runs ≤ length free_to
+  pub free_to_clear : IsClear rows free_to
+  pub used_from_size : length placed.runs ≤ length used_from
+  pub used_from_clear : IsClear rows used_from
   pub counts_size : length counts ≡ length rows
   pub once : (place : ℕ) → count_by (λ other. other == place) placed.free + count_by (λ other. other == place) placed.used ≤ 1
   pub free_keys : All (λ place. HasKey rows (run_at placed.runs place) place) placed.free
@@ -83,3 +98,7 @@ pub record HoldsRuns (rows : List Row) (placed : Placed) (free_from free_to used
   pub stops : MarksTell rows free_to stops_at (free_of placed)
   pub uses : MarksTell rows used_from begins_at (used_of placed)
   pub counts_used : CountsTell rows counts (used_of placed)
+
+-- the places of a new segment: the spare ones from `keep` on, and new ones from `size` on
+abbrev pub row_places : List ℕ → ℕ → ℕ → ℕ → List ℕ
+row_places spare keep size fresh = drop keep spare ++ range_with_len size fresh

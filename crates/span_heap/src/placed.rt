@@ -1,12 +1,14 @@
 //! The free runs and used spans of a heap, each kept under a place.
-ghost use Rattle.std.specs.Prelude.{◌≡◌, ◌-◌, ◌<◌, ◌≤◌, ◌++◌, ◌∷◌, [], Contains, length, set};
-ghost use Rattle.free_lists.specs.Lists.{without};
-ghost use Rattle.span_heap.specs.Placed.{IsPickOf};
+ghost use Rattle.std.specs.Prelude.{◌≡◌, ℕ, ◌+◌, ◌-◌, ◌^◌, ◌<◌, ◌≤◌, ◌++◌, ◌∷◌, [], Contains, OnOk, length, set};
+ghost use Rattle.free_lists.specs.Lists.{list_of, without};
+ghost use Rattle.span_heap.specs.Placed.{IsPickOf, run_at};
 
 use crate::by_class::pick_place;
 use crate::run::Run;
 use free_lists::Lists;
+use std::alloc::Global;
 use std::marker::Model;
+use units::NoMemory;
 
 /// The class of the order in which the free runs stand, by age.
 const FREE: u32 = 1;
@@ -39,6 +41,30 @@ impl Model for PlacedRuns {
 }
 
 impl PlacedRuns {
+    /// How many places there are.
+    pub(crate) fn len(&self) -> usize
+        ensures { result ≡ length self.now.runs }
+    {
+        self.runs.len()
+    }
+
+    /// Adds `more` places, under which no run stands. At `NoMemory` no place comes.
+    pub(crate) fn extend(&mut self, alloc: Global, more: u32) -> Result<(), NoMemory>
+        requires small { length self.old.runs + more < 2 ^ 32 }
+        ensures runs { OnOk result (length self.new.runs ≡ length self.old.runs + more) }
+        ensures fewer { length self.new.runs ≤ length self.old.runs + more }
+        ensures least { length self.old.runs ≤ length self.new.runs }
+        ensures read { (place : ℕ) → run_at self.new.runs place ≡ run_at self.old.runs place }
+        ensures free { self.new.free ≡ self.old.free }
+        ensures used { self.new.used ≡ self.old.used }
+    {
+        let total = self.runs.len() as u32 + more;
+        reach(&mut self.lists, &mut self.listed, alloc, total)?;
+        reach(&mut self.order, &mut self.ordered, alloc, total)?;
+        self.runs.resize(total as usize, Run::NONE)?;
+        Ok(())
+    }
+
     /// Keeps a free run under a place, as the latest.
     pub(crate) fn add_free(&mut self, place: u32, run: Run)
         requires place { place < length self.old.runs }
@@ -97,4 +123,19 @@ impl PlacedRuns {
         let place = pick_place(&self.lists, self.runs.as_slice(), pages, most)?;
         Some(self.runs[place as usize])
     }
+}
+
+/// Adds the places that the lists miss of `total`.
+fn reach(lists: &mut Lists, places: &mut u32, alloc: Global, total: u32) -> Result<(), NoMemory>
+    requires counted { lists.old.places ≡ places.old }
+    ensures counted { lists.new.places ≡ places.new }
+    ensures least { places.old ≤ places.new }
+    ensures reach { OnOk result (total ≤ places.new) }
+    ensures list { (class : ℕ) → list_of lists.new class ≡ list_of lists.old class }
+{
+    if *places < total {
+        lists.extend(alloc, total - *places)?;
+        *places = total;
+    }
+    Ok(())
 }

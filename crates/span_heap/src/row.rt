@@ -1,8 +1,9 @@
 //! A segment in the table of pages.
-ghost use Rattle.std.specs.Prelude.{◌≡◌, ◌<◌, length, position, slice_index_or, IsTrue};
+ghost use Rattle.std.specs.Prelude.{◌≡◌, ◌+◌, ◌^◌, ◌<◌, ◌≤◌, length, position, slice_index_or, IsTrue, IfOk};
 ghost use Rattle.std.specs.List.{list_any};
-ghost use Rattle.span_heap.specs.Table.{is_row, RowStands};
+ghost use Rattle.span_heap.specs.Table.{is_row, RowStands, row_places};
 
+use std::alloc::{AllocError, Global};
 use std::marker::Model;
 
 /// A segment, with the place of each of its pages.
@@ -21,6 +22,13 @@ impl Model for PageRow {
 }
 
 impl PageRow {
+    /// A segment whose pages have these places.
+    pub(crate) fn new(id: u64, places: Vec<u32>) -> PageRow
+        ensures { result ≡ record { id = id; places = places.items } }
+    {
+        PageRow { id, places }
+    }
+
     /// The number of the segment.
     pub(crate) fn id(&self) -> u64
         ensures { result ≡ self.now.id }
@@ -67,4 +75,23 @@ pub(crate) fn has_row(rows: &[PageRow], id: u64) -> bool
     ensures { result ≡ list_any (is_row id) rows.now }
 {
     rows.iter().any(|row| row.id() == id)
+}
+
+/// The places of a new segment: the spare ones from `keep` on, and `fresh` new ones from `size` on.
+pub(crate) fn new_places(
+    alloc: Global,
+    spare: &[u32],
+    keep: usize,
+    size: u32,
+    fresh: u32,
+) -> Result<Vec<u32>, AllocError>
+    requires within { keep ≤ length spare.now }
+    requires small { size + fresh < 2 ^ 32 }
+    ensures { IfOk result (λ places. places.items ≡ row_places spare.now keep size fresh) }
+{
+    let mut places = Vec::from_slice(alloc, &spare[keep..])?;
+    for place in size..size + fresh {
+        places.push(place)?;
+    }
+    Ok(places)
 }

@@ -17,6 +17,13 @@ pub struct Run {
 }
 
 impl Run {
+    /// No page at all.
+    pub(crate) const NONE: Run = Run {
+        segment: 0,
+        first: 0,
+        pages: 0,
+    };
+
     /// The page behind the last one.
     fn end(&self) -> u64
         ensures { result ≡ self.now.first + self.now.pages }

@@ -36,9 +36,13 @@ loop-at-smaller c =
 pub loop-at-preserved : goal.loop-at-preserved
 loop-at-preserved c =
     let i = c.loop-at.invariant in
-    let cut = at_cut (list_of c.args.lists.now 256) i.0 i.1 c.loop-at.at c.in-Some.place i.2 i.3 c.in-Some.is in
-    (cut.0, c.in-Some.place ∷ i.1, cut.1, c.before-at.ensures.each 256 cut.0 i.1 cut.1,
-      All-cons (λ place. fits c.args.pages (c.args.most - c.args.pages) (run_at c.args.runs.now place) ≡ false) c.in-Some.place i.1 (sym c.fits.ensures ∙ c.if-fits.false) i.4)
+    let cut = at_cut (list_of c.args.lists.now 256) i.0 i.1 c.loop-at.at c.in-Some.place i.2 i.3 c.in-Some.is in (
+      cut.0,
+      c.in-Some.place ∷ i.1,
+      cut.1,
+      c.before-at.ensures.each 256 cut.0 i.1 cut.1,
+      All-cons (λ place. fits c.args.pages (c.args.most - c.args.pages) (run_at c.args.runs.now place) ≡ false) c.in-Some.place i.1 (sym c.fits.ensures ∙ c.if-fits.false) i.4,
+    )
 
 pub returns : goal.returns
 returns c =

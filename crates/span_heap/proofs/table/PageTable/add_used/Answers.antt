@@ -118,8 +118,7 @@ invariant_of-self c =
     let low : c.place-first.result < length t.used_from.items = omega (arith, first, places.within at c.args.span.first wide, holds.used_from_size) in
     let low_count : at < length t.counts.items = omega (arith, stands.within, holds.counts_size) in
     let mark = mark_is t.used_from.items c.place-first.result c.index_mut.result.now low c.index_mut.ensures.value in
-    let mark_2 = mark_is t.counts.items at c.index_mut-2.result.now low_count c.index_mut-2.ensures.value in
-    (
+    let mark_2 = mark_is t.counts.items at c.index_mut-2.result.now low_count c.index_mut-2.ensures.value in (
       rw (c.add_used.ensures.runs, length-set t.runs.runs c.place-first.result c.args.span) places,
       rw (first)
           (HoldsRuns-used_added rows t.spare.items (length t.runs.runs) t.runs c.add_used.new.self t.free_from.items t.free_to.items t.used_from.items t.counts.items c.args.span at _ _ places refl holds stands fits.0 fits.1

@@ -16,8 +16,7 @@ returns-in_default c =
     let places = c.self.invariant.0 in
     let holds = c.self.invariant.1 in
     let span : Run = c.args.span.now in
-    let none : position (is_row span.segment) rows ≡ None = sym (rw c.as_slice.ensures.value at c.first_row.ensures) ∙ c.in_default.is in
-    (
+    let none : position (is_row span.segment) rows ≡ None = sym (rw c.as_slice.ensures.value at c.first_row.ensures) ∙ c.in_default.is in (
       λ e. absurd (false≢true e),
       λ there. absurd (position_finds (is_row span.segment) rows (row_of_run rows t.runs.runs t.runs.used span holds.used_keys (rw (← c.self.view_is) at there)) none),
     )
@@ -31,8 +30,7 @@ returns-then-span-eq0 c =
     let span : Run = c.args.span.now in
     let at = c.in-Some.at in
     let found_at : position (is_row span.segment) rows ≡ Some at = sym (rw c.as_slice.ensures.value at c.first_row.ensures) ∙ c.in-Some.is in
-    let stands = row_stands rows span.segment at found_at in
-    (
+    let stands = row_stands rows span.segment at found_at in (
       λ e. absurd (false≢true e),
       λ there. absurd (omega (arith, c.if-span-eq0.true, (found_run rows t.runs.runs t.runs.used span at places.distinct holds.used_keys (rw (← c.self.view_is) at there) stands).sized)),
     )
@@ -48,8 +46,7 @@ returns-then-span-len c =
     let found_at : position (is_row span.segment) rows ≡ Some at = sym (rw c.as_slice.ensures.value at c.first_row.ensures) ∙ c.in-Some.is in
     let stands = row_stands rows span.segment at found_at in
     let row = row_is rows at c.index.result.now stands.within c.index.ensures in
-    let len : c.len.result ≡ width_at rows at = c.len.ensures ∙ ap {B = ℕ} (λ (r : Row). length r.places) row in
-    (
+    let len : c.len.result ≡ width_at rows at = c.len.ensures ∙ ap {B = ℕ} (λ (r : Row). length r.places) row in (
       λ e. absurd (false≢true e),
       λ there.
           let found = found_run rows t.runs.runs t.runs.used span at places.distinct holds.used_keys (rw (← c.self.view_is) at there) stands in
@@ -94,8 +91,7 @@ returns c =
     let marked : c.index-3.result.now ≡ pages_of (filter (begins_at span.segment span.first) (used_of t.runs)) =
     mark_is t.used_from.items c.place-place.result c.index-3.result.now low c.index-3.ensures
     ∙ (ap (λ p. get_or t.used_from.items p 0) place ∙ (holds.uses at span.first wide ∙ ap (λ id. pages_of (filter (begins_at id span.first) (used_of t.runs))) stands.numbered)) in
-    rw (← c.self.view_is)
-    (
+    rw (← c.self.view_is) (
       λ e. run_of_mark rows t.runs.runs t.runs.used span at places.distinct stands holds.used_keys few (omega (arith, c.if-span-eq0.false)) (sym marked ∙ eqb-true c.index-3.result.now span.pages e),
       λ there. eq-eqb c.index-3.result.now span.pages (marked ∙ marked_of_run rows t.runs.runs t.runs.used span at places.distinct stands holds.used_keys few there),
     )

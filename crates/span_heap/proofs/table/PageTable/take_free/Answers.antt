@@ -175,8 +175,7 @@ invariant_of-self c =
     let low : c.place-first.result < length t.free_from.items = omega (arith, first, places.within at c.args.run.first wide, holds.free_from_size) in
     let low_last : c.place-last.result < length t.free_to.items = omega (arith, last, places.within at (c.args.run.first + (c.args.run.pages - 1)) wide_last, holds.free_to_size) in
     let mark = mark_is t.free_from.items c.place-first.result c.index_mut.result.now low c.index_mut.ensures.value in
-    let mark_2 = mark_is t.free_to.items c.place-last.result c.index_mut-2.result.now low_last c.index_mut-2.ensures.value in
-    (
+    let mark_2 = mark_is t.free_to.items c.place-last.result c.index_mut-2.result.now low_last c.index_mut-2.ensures.value in (
       rw c.take_free.ensures.runs places,
       rw (first, last)
           (HoldsRuns-free_taken rows t.spare.items (length t.runs.runs) t.runs c.take_free.new.self t.free_from.items t.free_to.items t.used_from.items t.counts.items c.args.run at _ _ places refl holds stands found

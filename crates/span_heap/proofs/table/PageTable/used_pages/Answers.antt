@@ -28,8 +28,7 @@ returns-clause-none c =
     let is : c.index.result.now ≡ pages_in c.args.id (used_of t.runs) =
     mark_is t.counts.items c.row_of-at.result c.index.result.now (omega (arith, stands.within, holds.counts_size)) c.index.ensures
     ∙ (holds.counts_used c.row_of-at.result stands.within ∙ ap (λ id. pages_in id (used_of t.runs)) stands.numbered) in
-    rw (← c.self.view_is)
-    (
+    rw (← c.self.view_is) (
       λ e. none_in c.args.id (used_of t.runs) (all_sized t.rows.items t.runs.runs t.runs.used holds.used_keys) (sym is ∙ e),
       λ none. is ∙ pages_of_none c.args.id (used_of t.runs) none,
     )
