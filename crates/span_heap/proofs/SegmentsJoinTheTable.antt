@@ -3,7 +3,7 @@ use Rattle.std.proofs.Common.{◌≡◌, ◌≢◌, ℕ, zero, suc, ◌+◌, ◌
 use Rattle.std.specs.List.{sum_by, count_by, filter, list_any, range_with_len, All, Contains}
 use Rattle.std.proofs.Math.ListN.{get_or-append}
 use Rattle.std.proofs.Math.Seq.{get_or-append_seam}
-use Rattle.std.proofs.lemmas.List.{get_or_default, get_or_past, map-append, length-append, take-append-drop}
+use Rattle.std.proofs.lemmas.List.{get_or_past, map-append, length-append, length-drop, take-append-drop}
 use Rattle.std.proofs.lemmas.List.FromFn.{length-range_with_len, get_or-range_with_len}
 use Rattle.std.proofs.lemmas.List.Sums.{sum_by-cons, sum_by-append, sum_by_push}
 use Rattle.std.proofs.lemmas.List.Elements.{All-contains, Contains-get_or, Contains-append_left, Contains-append_right, Contains-append_cases}
@@ -12,7 +12,7 @@ use Rattle.std.proofs.lemmas.Bool.Decides.{nat_tests}
 use Rattle.span_heap.specs.declared.run.Run.{Run}
 use Rattle.span_heap.specs.Run.{lies_in, begins_at, ends_at, pages_of}
 use Rattle.span_heap.specs.Segment.{Segment}
-use Rattle.span_heap.specs.Changes.{NoneIn}
+use Rattle.span_heap.specs.Changes.{NoneIn, segment_of}
 use Rattle.span_heap.specs.Placed.{Placed, run_at, free_of, used_of, IsDistinct}
 use Rattle.span_heap.specs.Table.{Row, shown_row, is_row, row_at, width_at, place_at, RowStands, AreApart, ArePlaces, HasKey, stops_at, MarksTell, CountsTell, IsClear, Widens, HoldsRuns, row_places}
 use Rattle.span_heap.proofs.PartitionByCounts.{count_of_absent}
@@ -337,3 +337,52 @@ HoldsRuns-grown rows spare size id keep fresh placed placed' free_from free_to u
           (MarksTell-grown rows spare size id keep fresh used_from used_from' begins_at (used_of placed) places uses.read holds.used_from_clear holds.uses (begins_lies id) none_used);
       counts_used = subst (CountsTell (rows ++ row ∷ []) (counts ++ 0 ∷ [])) (sym same_used) (CountsTell-grown rows row counts (used_of placed) holds.counts_size holds.counts_used none_used);
     }
+
+-- runs that read as before
+pub map_read : (runs runs' : List Run) (places : List ℕ) → ((place : ℕ) → run_at runs' place ≡ run_at runs place) → map (run_at runs') places ≡ map (run_at runs) places
+map_read runs runs' [] read = refl
+map_read runs runs' (place ∷ places) read = rw (read place, map_read runs runs' places read) refl
+
+pub same_runs : (places places' : List ℕ) (runs runs' : List Run) → places' ≡ places → ((place : ℕ) → run_at runs' place ≡ run_at runs place) → map (run_at runs') places' ≡ map (run_at runs) places
+same_runs places places' runs runs' same read = ap (map (run_at runs')) same ∙ map_read runs runs' places read
+
+MarksTell-widened : (rows : List Row) (marks marks' : List ℕ) (test : ℕ → ℕ → Run → Bool) (runs : List Run) → ((place : ℕ) → get_or marks' place 0 ≡ get_or marks place 0) → MarksTell rows marks test runs → MarksTell rows marks' test runs
+MarksTell-widened rows marks marks' test runs read tell = λ at page wide. read (place_at rows at page) ∙ tell at page wide
+
+IsClear-widened : (rows : List Row) (marks marks' : List ℕ) → ((place : ℕ) → get_or marks' place 0 ≡ get_or marks place 0) → IsClear rows marks → IsClear rows marks'
+IsClear-widened rows marks marks' read clear = λ place away. read place ∙ clear place away
+
+-- more room for marks alone changes nothing
+pub HoldsRuns-widened : (rows : List Row) (placed placed' : Placed) (free_from free_to used_from free_from' free_to' used_from' counts : List ℕ) → HoldsRuns rows placed free_from free_to used_from counts
+    → placed'.free ≡ placed.free → placed'.used ≡ placed.used → ((place : ℕ) → run_at placed'.runs place ≡ run_at placed.runs place) → length placed'.runs ≡ length placed.runs
+    → Widens free_from free_from' → Widens free_to free_to' → Widens used_from used_from' → HoldsRuns rows placed' free_from' free_to' used_from' counts
+HoldsRuns-widened rows placed placed' free_from free_to used_from free_from' free_to' used_from' counts holds free used runs sizes from to uses =
+    let same_free : free_of placed' ≡ free_of placed = same_runs placed.free placed'.free placed.runs placed'.runs free runs in
+    let same_used : used_of placed' ≡ used_of placed = same_runs placed.used placed'.used placed.runs placed'.runs used runs in
+    record {
+      free_from_size = omega (arith, holds.free_from_size, from.reach, sizes);
+      free_from_clear = IsClear-widened rows free_from free_from' from.read holds.free_from_clear;
+      free_to_size = omega (arith, holds.free_to_size, to.reach, sizes);
+      free_to_clear = IsClear-widened rows free_to free_to' to.read holds.free_to_clear;
+      used_from_size = omega (arith, holds.used_from_size, uses.reach, sizes);
+      used_from_clear = IsClear-widened rows used_from used_from' uses.read holds.used_from_clear;
+      counts_size = holds.counts_size;
+      once = λ p. omega (arith, holds.once p, ap (count_by (λ other. eqb other p)) free, ap (count_by (λ other. eqb other p)) used);
+      free_keys = subst (All (λ p. HasKey rows (run_at placed'.runs p) p)) (sym free)
+          (λ k d within. subst (λ r. HasKey rows r (get_or placed.free k d)) (sym (runs (get_or placed.free k d))) (holds.free_keys k d within));
+      used_keys = subst (All (λ p. HasKey rows (run_at placed'.runs p) p)) (sym used)
+          (λ k d within. subst (λ r. HasKey rows r (get_or placed.used k d)) (sym (runs (get_or placed.used k d))) (holds.used_keys k d within));
+      begins = subst (MarksTell rows free_from' begins_at) (sym same_free) (MarksTell-widened rows free_from free_from' begins_at (free_of placed) from.read holds.begins);
+      stops = subst (MarksTell rows free_to' stops_at) (sym same_free) (MarksTell-widened rows free_to free_to' stops_at (free_of placed) to.read holds.stops);
+      uses = subst (MarksTell rows used_from' begins_at) (sym same_used) (MarksTell-widened rows used_from used_from' begins_at (used_of placed) uses.read holds.uses);
+      counts_used = subst (CountsTell rows counts) (sym same_used) holds.counts_used;
+    }
+
+-- what is seen of the new row
+pub shown_grown : (rows : List Row) (row : Row) (id pages : ℕ) → row.id ≡ id → length row.places ≡ pages → map shown_row (rows ++ row ∷ []) ≡ map shown_row rows ++ segment_of id pages ∷ []
+shown_grown rows row id pages same_id same_pages =
+    map-append shown_row rows (row ∷ []) ∙ ap (λ s. map shown_row rows ++ s ∷ []) (ap (λ i. segment_of i (length row.places)) same_id ∙ ap (segment_of id) same_pages)
+
+pub row_places_length : (spare : List ℕ) (keep size fresh : ℕ) → length (row_places spare keep size fresh) ≡ length spare - keep + fresh
+row_places_length spare keep size fresh =
+    omega (arith, length-append (drop keep spare) (range_with_len size fresh), length-range_with_len size fresh, length-drop keep spare)

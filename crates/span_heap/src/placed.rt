@@ -1,5 +1,5 @@
 //! The free runs and used spans of a heap, each kept under a place.
-ghost use Rattle.std.specs.Prelude.{◌≡◌, ℕ, ◌+◌, ◌-◌, ◌^◌, ◌<◌, ◌≤◌, ◌++◌, ◌∷◌, [], Contains, OnOk, length, set};
+ghost use Rattle.std.specs.Prelude.{◌≡◌, ℕ, ◌+◌, ◌-◌, ◌^◌, ◌<◌, ◌≤◌, ◌++◌, ◌∷◌, [], Contains, OnOk, OnErr, length, set};
 ghost use Rattle.free_lists.specs.Lists.{list_of, without};
 ghost use Rattle.span_heap.specs.Placed.{IsPickOf, run_at};
 
@@ -52,8 +52,7 @@ impl PlacedRuns {
     pub(crate) fn extend(&mut self, alloc: Global, more: u32) -> Result<(), NoMemory>
         requires small { length self.old.runs + more < 2 ^ 32 }
         ensures runs { OnOk result (length self.new.runs ≡ length self.old.runs + more) }
-        ensures fewer { length self.new.runs ≤ length self.old.runs + more }
-        ensures least { length self.old.runs ≤ length self.new.runs }
+        ensures same { OnErr result (length self.new.runs ≡ length self.old.runs) }
         ensures read { (place : ℕ) → run_at self.new.runs place ≡ run_at self.old.runs place }
         ensures free { self.new.free ≡ self.old.free }
         ensures used { self.new.used ≡ self.old.used }

@@ -1,7 +1,7 @@
 //! A segment in the table of pages.
-ghost use Rattle.std.specs.Prelude.{◌≡◌, ◌+◌, ◌^◌, ◌<◌, ◌≤◌, length, position, slice_index_or, IsTrue, IfOk};
+ghost use Rattle.std.specs.Prelude.{◌≡◌, ◌+◌, ◌^◌, ◌<◌, ◌≤◌, length, position, slice_index_or, IsTrue, IfOk, OnOk};
 ghost use Rattle.std.specs.List.{list_any};
-ghost use Rattle.span_heap.specs.Table.{is_row, RowStands, row_places};
+ghost use Rattle.span_heap.specs.Table.{is_row, RowStands, Widens, row_places};
 
 use std::alloc::{AllocError, Global};
 use std::marker::Model;
@@ -94,4 +94,32 @@ pub(crate) fn new_places(
         places.push(place)?;
     }
     Ok(places)
+}
+
+/// Makes marks for `total` places, where there are fewer. New marks are 0.
+fn widen(marks: &mut Vec<u32>, total: usize) -> Result<(), AllocError>
+    ensures widens { Widens marks.old.items marks.new.items }
+    ensures reach { OnOk result (total ≤ length marks.new.items) }
+{
+    let reach = total.max(marks.len());
+    marks.resize(reach, 0)
+}
+
+/// Makes three sets of marks for `total` places.
+pub(crate) fn widen_all(
+    one: &mut Vec<u32>,
+    two: &mut Vec<u32>,
+    three: &mut Vec<u32>,
+    total: usize,
+) -> Result<(), AllocError>
+    ensures one { Widens one.old.items one.new.items }
+    ensures two { Widens two.old.items two.new.items }
+    ensures three { Widens three.old.items three.new.items }
+    ensures reach { OnOk result (total ≤ length one.new.items) }
+    ensures reach_two { OnOk result (total ≤ length two.new.items) }
+    ensures reach_three { OnOk result (total ≤ length three.new.items) }
+{
+    widen(one, total)?;
+    widen(two, total)?;
+    widen(three, total)
 }

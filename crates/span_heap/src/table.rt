@@ -1,16 +1,18 @@
 //! The table of pages: which run begins or ends at each page of each segment.
-ghost use Rattle.std.specs.Prelude.{◌≡◌, ◌+◌, ◌-◌, ◌^◌, ◌<◌, ◌≤◌, ◌↔◌, not, [], ◌∷◌, ◌++◌, All, Contains, IsFalse, IsTrue, IsPermutation, filter};
+ghost use Rattle.std.specs.Prelude.{◌≡◌, ◌+◌, ◌-◌, ◌^◌, ◌<◌, ◌≤◌, ◌↔◌, not, [], ◌∷◌, ◌++◌, All, Contains, IsFalse, IsTrue, IsPermutation, OnOk, OnErr, filter};
 ghost use Rattle.span_heap.specs.Run.{is_run, begins_at, pages_of};
 ghost use Rattle.span_heap.specs.Runs.{pages_before, pages_behind};
 ghost use Rattle.span_heap.specs.Pick.{pick};
 ghost use Rattle.span_heap.specs.Segment.{pages_in};
-ghost use Rattle.span_heap.specs.Heap.{LiesWithin, has_segment};
-ghost use Rattle.span_heap.specs.Changes.{NoneIn};
+ghost use Rattle.span_heap.specs.Heap.{LiesWithin, has_segment, size_of};
+ghost use Rattle.span_heap.specs.Changes.{NoneIn, segment_of};
 
 use crate::placed::PlacedRuns;
-use crate::row::{PageRow, first_row, has_row, row_of};
+use crate::row::{PageRow, first_row, has_row, new_places, row_of, widen_all};
 use crate::run::Run;
+use std::alloc::Global;
 use std::marker::Model;
+use units::NoMemory;
 
 /// Segments with their used spans and free runs, each of which is found by its first or last page.
 #[derive(Debug, Drop)]
@@ -45,6 +47,36 @@ impl Model for PageTable {
 }
 
 impl PageTable {
+    /// Adds a segment that has no run. `NoMemory` leaves the table as before.
+    pub(crate) fn grow(&mut self, alloc: Global, id: u64, pages: u32) -> Result<(), NoMemory>
+        requires fresh { IsFalse (has_segment self.old.segments id) }
+        requires small { size_of self.old.segments + pages < 2 ^ 32 }
+        requires none_free { NoneIn id self.old.free }
+        requires none_used { NoneIn id self.old.used }
+        ensures grown { OnOk result (self.new.segments ≡ self.old.segments ++ segment_of id pages ∷ []) }
+        ensures same { OnErr result (self.new.segments ≡ self.old.segments) }
+        ensures free { self.new.free ≡ self.old.free }
+        ensures used { self.new.used ≡ self.old.used }
+    {
+        let size = self.runs.len() as u32;
+        let keep = self.spare.len() - self.spare.len().min(pages as usize);
+        let fresh = pages - (self.spare.len() - keep) as u32;
+        let places = new_places(alloc, self.spare.as_slice(), keep, size, fresh)?;
+        self.rows.reserve(1)?;
+        self.counts.reserve(1)?;
+        widen_all(
+            &mut self.free_from,
+            &mut self.free_to,
+            &mut self.used_from,
+            (size + fresh) as usize,
+        )?;
+        self.runs.extend(alloc, fresh)?;
+        self.spare.truncate(keep);
+        self.rows.push_reserved(PageRow::new(id, places));
+        self.counts.push_reserved(0);
+        Ok(())
+    }
+
     /// Takes out a free run.
     pub(crate) fn take_free(&mut self, run: Run)
         requires { Contains self.old.free run }
