@@ -8,6 +8,7 @@ sources, `rt run` proves and builds it first. The variable DISCARD names another
 'N passed, M failed', and the status is 1 where a case failed.
 """
 
+import concurrent.futures
 import glob
 import multiprocessing
 import os
@@ -165,9 +166,9 @@ def lay_files(case, folder):
 
 
 def work(given):
-    """The outcomes of some cases: of each its number, whether it passed, and what is to be said."""
+    """The outcomes of some cases: of each whether it passed, and what is to be said."""
     numbers, program, room = given
-    return [(number, *outcome(CASES[number], program, room)) for number in numbers]
+    return [outcome(CASES[number], program, room) for number in numbers]
 
 
 def outcome(case, program, room):
@@ -201,9 +202,9 @@ def main():
         copy = shutil.copyfile(program(), os.path.join(room, "discard"))
         os.chmod(copy, 0o755)
         parts = [(range(at, min(at + 20, len(CASES))), copy, room) for at in range(0, len(CASES), 20)]
-        with multiprocessing.get_context("fork").Pool() as pool:
-            for outcomes in pool.imap(work, parts):
-                for _, end, text in outcomes:
+        with concurrent.futures.ProcessPoolExecutor(mp_context=multiprocessing.get_context("fork")) as pool:
+            for outcomes in pool.map(work, parts):
+                for end, text in outcomes:
                     counts[end] += 1
                     if text:
                         print(text, flush=True)

@@ -1,1 +1,5 @@
-pub mod Overflow
+pub mod Asked
+pub mod Files
+pub mod Options
+pub mod Parts
+pub mod Reading

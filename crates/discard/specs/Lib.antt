@@ -1,3 +1,5 @@
+pub mod Commands
+pub mod Given
 pub mod Orders
 pub mod Report
 pub mod TileRun

@@ -1,9 +1,12 @@
 -- What is told on the report.
-use Rattle.std.specs.Prelude.{◌≡◌, ℕ, ◌⊎◌, List, [], ◌++◌, codes, decimal, Option}
+use Rattle.std.specs.Prelude.{◌≡◌, ◌≢◌, ℕ, ◌≤◌, ◌⊎◌, List, [], ◌++◌, codes, decimal, Option}
 use Rattle.units.specs.Count.{HasRisen}
 use Rattle.discard_io.specs.declared.status.Status.{Status}
 use Rattle.discard_io.specs.declared.status.Status.TheVariants.{Done, NoMemory, Usage, BadInput, ReadFault, WriteFault, FileFault}
 use Rattle.discard_io.specs.Streams.{appended, WroteFront}
+use Rattle.discard.specs.declared.top.Ended.{Ended}
+use Rattle.discard.specs.declared.top.Run.{Run}
+use Rattle.discard.specs.declared.top.Run.TheVariants.{Nothing}
 
 -- the line for a status, and nothing for Done
 abbrev pub status_line : Status → List ℕ
@@ -15,7 +18,55 @@ status_line ReadFault = codes "discard: read fault\n"
 status_line WriteFault = codes "discard: write fault\n"
 status_line FileFault = codes "discard: file fault\n"
 
--- a line was written behind what was written, or only a front of it where the sink failed
-abbrev pub Tells : Option (List ℕ) → ℕ → List ℕ → Option (List ℕ) → ℕ → Type 0
-Tells before faults line after faults_after =
-    WroteFront before line after × ((after ≡ appended before line) ⊎ HasRisen faults faults_after)
+-- the text that the report gets for a run that is done: none has one yet
+abbrev pub run_text : Run → List ℕ
+run_text run = []
+
+-- what the report gets where a run ended so: the text for the run where it is done, and else the line of its status
+abbrev pub report_of : Ended → List ℕ
+report_of ended = by_status ended.status
+  where
+    by_status : Status → List ℕ
+    by_status Done = run_text ended.run
+    by_status status = status_line status
+
+-- what the report tells: the bytes written, and how often it has failed
+pub record Telling : Type 0 where
+  pub written : Option (List ℕ)
+  pub faults : ℕ
+
+abbrev pub telling : Option (List ℕ) → ℕ → Telling
+telling written faults = record { written = written; faults = faults }
+
+-- a text was written on the report, or where the report failed a front of it; an empty text leaves the report alone
+pub record Told (text : List ℕ) (before after : Telling) : Type 0 where
+  pub front : WroteFront before.written text after.written
+  pub whole : (after.written ≡ appended before.written text) ⊎ HasRisen before.faults after.faults
+  pub nothing : text ≡ [] → after ≡ before
+  pub later : before.faults ≤ after.faults
+
+-- the report failed when it had got a front of a text that is not empty, and the run ends as a write fault, whose line, or a
+-- front of it, follows
+pub record ReportFailed (text : List ℕ) (ended : Ended) (before after : Telling) : Type 0 where
+  pub some : text ≢ []
+  pub fault : HasRisen before.faults after.faults
+  pub write_fault : ended ≡ record { status = WriteFault; run = Nothing }
+  pub between : Option (List ℕ)
+  pub front : WroteFront before.written text between
+  pub line : WroteFront between (status_line WriteFault) after.written
+
+-- the report got its text, and the program ends as its run did
+pub record ReportMade (text : List ℕ) (ran ended : Ended) (before after : Telling) : Type 0 where
+  pub as_run : ended ≡ ran
+  pub told : Told text before after
+
+-- How the program ends where its run ended so: as the run did. Only where a run is done and the report fails, it ends as a
+-- write fault.
+abbrev pub Reports : Ended → Ended → Telling → Telling → Type 0
+Reports ran ended before after = by_status ran.status
+  where
+    by_status : Status → Type 0
+    by_status Done =
+        (ReportMade (report_of ran) ran ended before after × (after.written ≡ appended before.written (report_of ran)))
+        ⊎ ReportFailed (report_of ran) ended before after
+    by_status status = ReportMade (report_of ran) ran ended before after

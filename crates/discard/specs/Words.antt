@@ -1,52 +1,60 @@
--- The words of the command line.
-use Rattle.std.specs.Prelude.{ℕ, ◌==◌, ◌||◌, Bool, false, if◌then◌else◌, List, [], ◌∷◌, ◌++◌, drop, codes, nat_eq, bytes_eq, string_bytes, String, map, Option, Some, None, option_and_then}
-use Rattle.std.specs.List.{starts_with}
-use Rattle.line_text.specs.Number.{number_in}
-use Rattle.tile_source.specs.declared.tile.Tile.{Tile}
-use Rattle.discard.specs.declared.words.Next.{Next}
-use Rattle.discard.specs.declared.words.Next.TheVariants as next
-
--- the second step, if the first gave a value
-infixl 10 ◌>>=◌
-abbrev pub ◌>>=◌ : {A B : Type 0} → Option A → (A → Option B) → Option B
-o >>= f = option_and_then f o
+-- The words behind a command: positional words, and options with their values.
+use Rattle.std.specs.Prelude.{ℕ, ◌==◌, ◌&&◌, Bool, true, false, not, if◌then◌else◌, List, [], ◌∷◌, drop, codes, nat_eq, bytes_eq, string_bytes, String, map, Option, Some, None, option_map, option_and_then, is_some}
+use Rattle.std.specs.Borrow.{Bor}
+use Rattle.std.specs.List.{starts_with, before_first, after_first, position}
 
 -- the bytes of each word
 abbrev pub texts : {A : Type 0} → List (String A) → List (List ℕ)
 texts words = map string_bytes words
 
--- what words give: the positional words in their order, and the value of `--side`
+-- the bytes of each name
+abbrev pub texts_of : List (Bor (List ℕ)) → List (List ℕ)
+texts_of names = map (λ name. name.now) names
+
+-- what words give: the positional words and the options in their order, each option as its name and its value
 pub record GivenWords : Type 0 where
   pub positional : List (List ℕ)
-  pub side : Option (List ℕ)
+  pub options : List (List ℕ × List ℕ)
 
--- nothing is given
-abbrev pub nothing : GivenWords
-nothing = record { positional = []; side = None }
+-- these words are positional, and there is no option
+abbrev pub only_positional : List (List ℕ) → GivenWords
+only_positional words = record { positional = words; options = [] }
 
--- one more positional word
-abbrev pub with_positional : List ℕ → GivenWords → GivenWords
-with_positional word before = record { positional = before.positional ++ word ∷ []; side = before.side }
+-- one positional word in front of what the words behind it give
+abbrev pub with_positional : List ℕ → Option GivenWords → Option GivenWords
+with_positional word given = option_map {T = GivenWords} (λ g. record g { positional = word ∷ g.positional }) given
 
--- the value of `--side`, which is given once at most
-abbrev pub with_side : List ℕ → GivenWords → Option GivenWords
-with_side value before = once before.positional before.side
-  where
-    once : List (List ℕ) → Option (List ℕ) → Option GivenWords
-    once positional None = Some (record { positional = positional; side = Some value })
-    once positional (Some other) = None
+-- one option in front of what the words behind it give
+abbrev pub with_option : List ℕ → List ℕ → Option GivenWords → Option GivenWords
+with_option name value given = option_map {T = GivenWords} (λ g. record g { options = (name, value) ∷ g.options }) given
+
+-- the byte `=`
+abbrev pub is_equals : ℕ → Bool
+is_equals byte = byte == 61
 
 -- the word ends the options
 abbrev pub is_end : List ℕ → Bool
 is_end word = bytes_eq word (codes "--")
 
--- the word names the option, and the next word is its value
-abbrev pub is_side : List ℕ → Bool
-is_side word = bytes_eq word (codes "--side")
+-- the name in a word that begins with `--`: what stands in front of the first `=`, or all
+abbrev pub name_in : List ℕ → List ℕ
+name_in word = before_first is_equals (drop 2 word)
 
--- the word names the option, and has its value behind the `=`
-abbrev pub has_side : List ℕ → Bool
-has_side word = starts_with nat_eq word (codes "--side=")
+-- the place of a name among these
+abbrev pub place_in : List (List ℕ) → List ℕ → Option ℕ
+place_in names name = position (λ known. bytes_eq known name) names
+
+-- the word is `--name` or `--name=value` with a known name
+abbrev pub is_option : List (List ℕ) → List ℕ → Bool
+is_option names word = starts_with nat_eq word (codes "--") && is_some (place_in names (name_in word))
+
+-- the word of an option has its value behind the `=`
+abbrev pub has_value : List ℕ → Bool
+has_value word = is_some (position is_equals (drop 2 word))
+
+-- the value behind the first `=`
+abbrev pub value_in : List ℕ → List ℕ
+value_in word = after_first is_equals (drop 2 word)
 
 -- the word begins with `-` and has more than one byte
 abbrev pub is_dashed : List ℕ → Bool
@@ -54,82 +62,35 @@ is_dashed [] = false
 is_dashed (byte ∷ []) = false
 is_dashed (byte ∷ second ∷ rest) = byte == 45
 
--- What words give, read from the left, behind those before them. The next word is read as any word, as the value of
--- `--side`, or as positional, since a `--` stands before it. None where a word is refused, or where a value is missing.
-abbrev pub given_after : GivenWords → Next → List (List ℕ) → Option GivenWords
-given_after before next.Any [] = Some before
-given_after before next.Positional [] = Some before
-given_after before next.Value [] = None
-given_after before next.Value (word ∷ rest) = do
-  more ← with_side word before
-  given_after more next.Any rest
-given_after before next.Positional (word ∷ rest) = given_after (with_positional word before) next.Positional rest
-given_after before next.Any (word ∷ rest) =
-    if is_end word then given_after before next.Positional rest
-    else if is_side word then given_after before next.Value rest
-    else if has_side word then (with_side (drop 7 word) before >>= λ more. given_after more next.Any rest)
+-- What words give, read from left to right, where the options have these names. `asked` is an option that has just been
+-- named, so that the first word is its value, whatever it is. None where a word is refused, or an option has no value.
+abbrev pub given_from : List (List ℕ) → Option (List ℕ) → List (List ℕ) → Option GivenWords
+given_from names None [] = Some (only_positional [])
+given_from names (Some asked) [] = None
+given_from names (Some asked) (value ∷ rest) = with_option asked value (given_from names None rest)
+given_from names None (word ∷ rest) =
+    if is_end word then Some (only_positional rest)
+    else if is_option names word then
+    (if has_value word then with_option (name_in word) (value_in word) (given_from names None rest)
+    else given_from names (Some (name_in word)) rest)
     else if is_dashed word then None
-    else given_after (with_positional word before) next.Any rest
+    else with_positional word (given_from names None rest)
 
--- what the words behind a command give
-abbrev pub given : List (List ℕ) → Option GivenWords
-given words = given_after nothing next.Any words
+-- the value of the first option with this name
+abbrev pub value_of : List ℕ → List (List ℕ × List ℕ) → Option (List ℕ)
+value_of name [] = None
+value_of name (option ∷ options) = if bytes_eq option.0 name then Some option.1 else value_of name options
 
--- what the words of the command line ask for: a replay, or a tile of the image in a file, with a side
-pub data OrderValue : Type 0 where
-  Replay : OrderValue
-  WriteTile : (file : List ℕ) (tile : Tile) (side : ℕ) → OrderValue
+-- an option with this name stands among them
+abbrev pub has_option : List ℕ → List (List ℕ × List ℕ) → Bool
+has_option name options = is_some (value_of name options)
 
--- a side, which is 64, 128 or 256
-abbrev pub side_in : List ℕ → Option ℕ
-side_in word = do
-  side ← number_in word 64 256
-  if side == 64 || side == 128 || side == 256 then Some side else None
+-- no option stands twice
+abbrev pub stand_once : List (List ℕ × List ℕ) → Bool
+stand_once [] = true
+stand_once (option ∷ options) = not (has_option option.0 options) && stand_once options
 
--- the side that is asked for: 256 where none is given
-abbrev pub side_of : Option (List ℕ) → Option ℕ
-side_of None = Some 256
-side_of (Some value) = side_in value
-
--- a word that isn't empty
-abbrev pub named : List ℕ → Option (List ℕ)
-named [] = None
-named (byte ∷ bytes) = Some (byte ∷ bytes)
-
--- the positional words of `tile` are a file with a name, a zoom, a column and a row
-abbrev pub tile_of : GivenWords → Option OrderValue
-tile_of words = four words.positional
-  where
-    four : List (List ℕ) → Option OrderValue
-    four (file ∷ z ∷ x ∷ y ∷ []) = do
-      name ← named file
-      zoom ← number_in z 0 6
-      column ← number_in x 0 65535
-      row ← number_in y 0 65535
-      side ← side_of words.side
-      Some (WriteTile name (record { z = zoom; x = column; y = row }) side)
-    four _ = None
-
--- `replay` has no positional word and no option
-abbrev pub replay_of : GivenWords → Option OrderValue
-replay_of words = none words.positional words.side
-  where
-    none : List (List ℕ) → Option (List ℕ) → Option OrderValue
-    none [] None = Some Replay
-    none _ _ = None
-
--- what the words behind `replay` ask for
-abbrev pub replay_order : List (List ℕ) → Option OrderValue
-replay_order words = given words >>= replay_of
-
--- what the words behind `tile` ask for
-abbrev pub tile_order : List (List ℕ) → Option OrderValue
-tile_order words = given words >>= tile_of
-
--- what the words of the command line ask for, or None where they are not lawful
-abbrev pub order_of : List (List ℕ) → Option OrderValue
-order_of [] = None
-order_of (command ∷ words) =
-    if bytes_eq command (codes "replay") then replay_order words
-    else if bytes_eq command (codes "tile") then tile_order words
-    else None
+-- what the words behind a command give, or None where a word is refused, where an option has no value, or where one stands
+-- twice
+abbrev pub words_given : List (List ℕ) → List (List ℕ) → Option GivenWords
+words_given names words = option_and_then (λ given. if stand_once given.options then Some given else None) (given_from names None words)

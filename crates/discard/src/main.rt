@@ -2,8 +2,9 @@
 //! `discard`: soft memory for caches. `discard replay` runs a script of events from the standard input, and writes a
 //! line of reply to each on the standard output. `discard tile` writes one tile of the image in a file.
 
-ghost use Rattle.discard.specs.Report.{status_line, Tells};
+ghost use Rattle.discard.specs.Report.{status_line, telling, Told};
 
+mod orders;
 mod report;
 #[cfg(test)]
 mod tests;
@@ -47,7 +48,9 @@ fn main(rt: HostRuntime) -> ExitCode {
 
 /// Tells a status on the report, and is its exit code.
 fn failed<E: Sink>(report: &mut E, status: Status) -> ExitCode
-    ensures { Tells (E.written report.old) (E.faults report.old) (status_line status) (E.written report.new) (E.faults report.new) }
+    ensures { Told (status_line status)
+        (telling (E.written report.old) (E.faults report.old))
+        (telling (E.written report.new) (E.faults report.new)) }
 {
     tell(report, status);
     ExitCode::from(status.code())

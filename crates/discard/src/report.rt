@@ -1,5 +1,5 @@
 ghost use Rattle.std.specs.Prelude.{◌≡◌, ◌≤◌, length};
-ghost use Rattle.discard.specs.Report.{status_line, Tells};
+ghost use Rattle.discard.specs.Report.{status_line, telling, Told};
 
 use arrayvec::ArrayString;
 use discard_io::{Sink, Status, write_all};
@@ -8,11 +8,11 @@ use itoa::Buffer;
 /// Room for the longest line of a status.
 const ROOM: usize = 64;
 
-/// Writes the line of a status on the report, and nothing for Done. It takes no memory, and where the report fails the
-/// status stays.
+/// Writes the line of a status on the report, and nothing for Done. It takes no memory.
 pub(crate) fn tell<E: Sink>(report: &mut E, status: Status)
-    ensures told { Tells (E.written report.old) (E.faults report.old) (status_line status) (E.written report.new) (E.faults report.new) }
-    ensures later { E.faults report.old ≤ E.faults report.new }
+    ensures { Told (status_line status)
+        (telling (E.written report.old) (E.faults report.old))
+        (telling (E.written report.new) (E.faults report.new)) }
 {
     let line = line_of(status);
     let _ = write_all(report, line.as_str().as_bytes());

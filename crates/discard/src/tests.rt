@@ -14,32 +14,16 @@ struct Devices {
     files: MemFiles,
 }
 
-/// Which call of each object fails, counted from 1. None is the call 0.
-#[derive(Clone, Copy)]
-struct Faults {
-    read: u64,
-    write: u64,
-    tell: u64,
-    file: u64,
-}
-
-const NEVER: Faults = Faults {
-    read: 0,
-    write: 0,
-    tell: 0,
-    file: 0,
-};
-
 impl Devices {
     /// Objects with this script, and with this file under the names `a.pgm` and `--x`.
-    fn new(alloc: Global, script: &str, file: &[u8], faults: Faults) -> Result<Devices, Fail> {
-        let mut files = MemFiles::new(alloc, &[faults.file])?;
+    fn new(alloc: Global, script: &str, file: &[u8]) -> Result<Devices, Fail> {
+        let mut files = MemFiles::new(alloc, &[])?;
         files.add(alloc, "a.pgm", file)?;
         files.add(alloc, "--x", file)?;
         Ok(Devices {
-            input: MemSource::new(alloc, script.as_bytes(), 5, &[faults.read])?,
-            out: MemSink::new(alloc, 70000, 4096, &[faults.write])?,
-            report: MemSink::new(alloc, 64, 7, &[faults.tell])?,
+            input: MemSource::new(alloc, script.as_bytes(), 5, &[])?,
+            out: MemSink::new(alloc, 4200, 4096, &[])?,
+            report: MemSink::new(alloc, 64, 7, &[])?,
             files,
         })
     }
@@ -73,53 +57,87 @@ fn run<H: Threads + Wait + Sync>(
     ))
 }
 
-/// Bytes with so many others behind them that they are `len`.
-fn padded(alloc: Global, front: &[u8], len: usize, byte: u8) -> Result<Vec<u8>, Fail> {
-    let mut bytes = Vec::from_slice(alloc, front)?;
-    bytes.resize(len, byte)?;
-    Ok(bytes)
+/// Whether a replay is done, hands on its answer, and writes these replies and nothing on the report.
+fn replays<H: Threads + Wait + Sync>(
+    rt: &H,
+    alloc: Global,
+    script: &str,
+    replies: &str,
+) -> Result<bool, Fail> {
+    let mut devices = Devices::new(alloc, script, b"")?;
+    let ended = run(rt, alloc, "replay", &mut devices)?;
+    Ok(
+        ended.status == Status::Done
+            && matches!(ended.run, Run::Replay(_))
+            && devices.out.written() == replies.as_bytes()
+            && devices.report.written().is_empty(),
+    )
+}
+
+/// Whether these words are done and write a tile of 64 by 64 pixels with this first pixel, and zeros.
+fn tile_is<H: Threads + Wait + Sync>(
+    rt: &H,
+    alloc: Global,
+    words: &str,
+    file: &[u8],
+    first: u8,
+) -> Result<bool, Fail> {
+    let mut devices = Devices::new(alloc, "", file)?;
+    let ended = run(rt, alloc, words, &mut devices)?;
+    Ok(
+        ended.status == Status::Done
+            && is_dark_tile(devices.out.written(), first)
+            && devices.report.written().is_empty(),
+    )
+}
+
+fn is_dark_tile(bytes: &[u8], first: u8) -> bool {
+    match bytes.strip_prefix(b"P5\n64 64\n255\n") {
+        Some(pixels) => {
+            pixels.len() == 4096
+                && pixels[0] == first
+                && pixels.iter().skip(1).all(|pixel| *pixel == 0)
+        }
+        None => false,
+    }
+}
+
+/// Whether a run tells this line on the report, and writes nothing else.
+fn is_refused<H: Threads + Wait + Sync>(
+    rt: &H,
+    alloc: Global,
+    words: &str,
+    script: &str,
+    line: &str,
+) -> Result<bool, Fail> {
+    let mut devices = Devices::new(alloc, script, b"")?;
+    let ended = run(rt, alloc, words, &mut devices)?;
+    Ok(
+        matches!(ended.run, Run::Nothing)
+            && devices.out.written().is_empty()
+            && devices.report.written() == line.as_bytes(),
+    )
 }
 
 #[test]
 fn replays_hand_on_what_they_answered(rt: HostRuntime) -> Result<(), Fail> {
-    for (words, script, want) in [
-        ("replay", "", ""),
-        ("replay --", "grant 1 1 1\ntry 1 9", "segment 1\nused 9\n"),
-    ] {
-        let mut devices = Devices::new(rt.alloc(), script, b"", NEVER)?;
-        let ended = run(&rt, rt.alloc(), words, &mut devices)?;
-        assert_eq!(rt; ended.status, Status::Done);
-        assert!(rt; matches!(ended.run, Run::Replay(_)));
-        assert_eq!(rt; devices.out.written(), want.as_bytes());
-        assert!(rt; devices.report.written().is_empty());
-    }
+    let alloc = rt.alloc();
+    assert!(rt; replays(&rt, alloc, "", "")?);
+    assert!(rt; replays(&rt, alloc, "grant 1 1 1\ntry 1 9", "segment 1\nused 9\n")?);
     Ok(())
 }
 
 #[test]
 fn tiles_are_means_of_samples(rt: HostRuntime) -> Result<(), Fail> {
     let alloc = rt.alloc();
-    let one = Vec::from_slice(alloc, b"P5 1 1 255\n\xc8")?;
-    let white = padded(alloc, b"P5 64 64 255\n", 4109, 255)?;
-    for (file, words, sample) in [
-        (&one, "tile a.pgm 0 0 0 --side 64", 200),
-        (&one, "tile --side=64 a.pgm 1 0 0", 50),
-        (&one, "tile a.pgm 6 --side=64 0 0", 0),
-        (&one, "tile a.pgm 0 1 0 --side=64 --", 0),
-        (&white, "tile --side=64 -- --x 6 0 0", 255),
-    ] {
-        let mut devices = Devices::new(alloc, "grant", file, NEVER)?;
-        let ended = run(&rt, alloc, words, &mut devices)?;
-        assert_eq!(rt; ended.status, Status::Done);
-        let mut want = Vec::from_slice(alloc, b"P5\n64 64\n255\n")?;
-        want.push(sample)?;
-        let want = padded(alloc, &want, 4109, 0)?;
-        assert_eq!(rt; devices.out.written(), want.as_slice());
-        assert!(rt; devices.report.written().is_empty());
-    }
-    let mut devices = Devices::new(alloc, "", &white, NEVER)?;
-    run(&rt, alloc, "tile a.pgm 0 0 0", &mut devices)?;
-    assert_eq!(rt; devices.out.written().len(), 65551);
+    let one = b"P5 1 1 255\n\xc8";
+    assert!(rt; tile_is(&rt, alloc, "tile a.pgm 0 0 0 --side 64", one, 200)?);
+    assert!(rt; tile_is(&rt, alloc, "tile --side=64 a.pgm 1 0 0", one, 50)?);
+    assert!(rt; tile_is(&rt, alloc, "tile a.pgm 6 --side=64 0 0", one, 0)?);
+    assert!(rt; tile_is(&rt, alloc, "tile a.pgm 0 1 0 --side=64 --", one, 0)?);
+    let mut white = Vec::from_slice(alloc, b"P5 64 64 255\n")?;
+    white.resize(4109, 255)?;
+    assert!(rt; tile_is(&rt, alloc, "tile --side=64 -- --x 6 0 0", &white, 255)?);
     Ok(())
 }
 
@@ -127,90 +145,58 @@ fn tiles_are_means_of_samples(rt: HostRuntime) -> Result<(), Fail> {
 fn other_words_are_usage(rt: HostRuntime) -> Result<(), Fail> {
     for words in [
         "",
-        "--help",
         "replay x",
-        "replay --limit 4",
-        "tile",
+        "replay --limit -4",
+        "replay --limit 04",
+        "replay --limit 4 --limit 5",
         "tile a.pgm 0 0",
-        "tile a.pgm 0 0 0 0",
-        "tile  0 0 0",
-        "tile a.pgm 7 0 0",
-        "tile a.pgm 0 65536 0",
-        "tile a.pgm 0 0 01",
-        "tile a.pgm -z 0 0",
-        "tile a.pgm 0 0 0 --side",
-        "tile a.pgm 0 0 0 --side 100",
-        "tile a.pgm 0 0 0 --side=064",
         "tile a.pgm 0 0 0 --side 64 --side 64",
+        "serve a.pgm --side 100",
+        "--help",
     ] {
-        let mut devices = Devices::new(rt.alloc(), "", b"P5 1 1 255\n\xc8", NEVER)?;
-        let ended = run(&rt, rt.alloc(), words, &mut devices)?;
-        assert_eq!(rt; ended.status, Status::Usage, "{words}");
-        assert_eq!(rt; devices.report.written(), b"discard: usage\n".as_slice());
+        assert!(rt; is_refused(&rt, rt.alloc(), words, "", "discard: usage\n")?);
     }
     Ok(())
 }
 
 #[test]
-fn refused_files_say_where_and_why(rt: HostRuntime) -> Result<(), Fail> {
-    let files: [(&[u8], u64, u32, &str); 5] = [
-        (b"P2 1 1 255\n", 0, 11, "discard: bad input 0 11\n"),
-        (b"P5 1 x", 5, 12, "discard: bad input 5 12\n"),
-        (b"P5 8193 1 255\n", 3, 13, "discard: bad input 3 13\n"),
-        (b"P5 2 1 255\n\x07", 12, 14, "discard: bad input 12 14\n"),
-        (b"P5 1 1 256\n\x01\x00", 7, 15, "discard: bad input 7 15\n"),
-    ];
-    for (file, place, cause, line) in files {
-        let mut devices = Devices::new(rt.alloc(), "", file, NEVER)?;
-        let ended = run(&rt, rt.alloc(), "tile a.pgm 0 0 0", &mut devices)?;
-        assert_eq!(rt; ended.status, Status::BadInput { place, cause });
-        assert_eq!(rt; devices.report.written(), line.as_bytes());
-    }
-    Ok(())
-}
-
-#[test]
-fn faults_tell_why_a_run_ended(rt: HostRuntime) -> Result<(), Fail> {
-    let read = Faults { read: 1, ..NEVER };
-    let write = Faults { write: 1, ..NEVER };
-    let file = Faults { file: 1, ..NEVER };
-    let both = Faults { tell: 2, ..file };
-    for (words, faults, want, line) in [
-        ("replay", read, Status::ReadFault, "discard: read fault\n"),
-        (
+fn refused_scripts_say_where_and_why(rt: HostRuntime) -> Result<(), Fail> {
+    let alloc = rt.alloc();
+    assert!(rt;
+        is_refused(
+            &rt,
+            alloc,
             "replay",
-            write,
-            Status::WriteFault,
-            "discard: write fault\n",
-        ),
-        (
-            "tile a.pgm 0 0 0",
-            write,
-            Status::WriteFault,
-            "discard: write fault\n",
-        ),
-        (
-            "tile a.pgm 0 0 0",
-            file,
-            Status::FileFault,
-            "discard: file fault\n",
-        ),
-        (
-            "tile b.pgm 0 0 0",
-            NEVER,
-            Status::FileFault,
-            "discard: file fault\n",
-        ),
-        ("tile a.pgm 0 0 0", both, Status::FileFault, "discard"),
-    ] {
-        let mut devices = Devices::new(rt.alloc(), "grant 1 1 1\n", b"P5 1 1 255\n\xc8", faults)?;
-        let ended = run(&rt, rt.alloc(), words, &mut devices)?;
-        assert_eq!(rt; ended.status, want);
-        assert!(rt; devices.out.written().is_empty());
-        assert_eq!(rt; devices.report.written(), line.as_bytes());
-    }
-    let mut devices = Devices::new(rt.alloc(), "grant 1 1 1\nback 1\n", b"", NEVER)?;
-    let ended = run(&rt, rt.alloc(), "replay", &mut devices)?;
-    assert_eq!(rt; ended.status, Status::BadInput { place: 2, cause: 1 });
+            "grnt 1 1 1",
+            "discard: bad input 1 1\n"
+        )?
+    );
+    assert!(rt;
+        is_refused(
+            &rt,
+            alloc,
+            "replay",
+            "grant 1 1",
+            "discard: bad input 1 2\n"
+        )?
+    );
+    assert!(rt;
+        is_refused(
+            &rt,
+            alloc,
+            "replay",
+            "# a\n\ngrant 0 1 1",
+            "discard: bad input 3 3\n",
+        )?
+    );
+    assert!(rt;
+        is_refused(
+            &rt,
+            alloc,
+            "replay",
+            "write 1 0 abc",
+            "discard: bad input 1 4\n"
+        )?
+    );
     Ok(())
 }

@@ -1,18 +1,16 @@
-ghost use Rattle.std.specs.Prelude.{◌≡◌, ◌≤◌, ℕ, List, [], ◌∷◌, IfOk, length, vec_len};
+ghost use Rattle.std.specs.Prelude.{◌≡◌, ◌≤◌, ℕ, List, [], ◌∷◌, IfOk, vec_len};
+ghost use Rattle.tile_source.specs.declared.limits.TheConstants.{MOST_FILE_BYTES};
 ghost use Rattle.tile_source.specs.Tile.{IsTile, reply};
 ghost use Rattle.discard.specs.Orders.{IsSide};
-ghost use Rattle.discard.specs.TileRun.{drives, TileEnds, Reads, StatusFor, most_bytes};
+ghost use Rattle.discard.specs.TileRun.{drives, TileEnds, Reads, StatusFor};
 
 use discard_io::{FileFault, Files, Sink, Status, write_all};
-use units::NoMemory;
 use std::alloc::Global;
-use tile_source::{Image, ImageMaker, PgmFault, Tile, TileMaker, pgm_head, read_pgm_in_place};
-
-/// The most bytes that a file has: an image of 8,192 by 8,192 samples of two bytes, and a header.
-const MOST_BYTES: u64 = 134_283_264;
-
-/// The cause of a file that has more.
-const TOO_LONG: u32 = 16;
+use tile_source::{
+    Image, ImageMaker, MOST_FILE_BYTES, PgmFault, Tile, TileMaker, causes, pgm_head,
+    read_pgm_in_place,
+};
+use units::NoMemory;
 
 /// Writes one tile of the image in a file, with a head of its own.
 pub(crate) fn write_tile<O: Sink, F: Files>(
@@ -26,19 +24,21 @@ pub(crate) fn write_tile<O: Sink, F: Files>(
     requires tile { IsTile tile }
     requires side { IsSide side }
     ensures ends { TileEnds side tile result
-        (drives (F.bytes files.old file.now) (F.faults files.old) (O.written out.old) (O.faults out.old))
-        (drives (F.bytes files.new file.now) (F.faults files.new) (O.written out.new) (O.faults out.new)) }
+        (drives (F.bytes files.old file.now) (F.faults files.old)
+        (O.written out.old) (O.faults out.old))
+        (drives (F.bytes files.new file.now) (F.faults files.new)
+        (O.written out.new) (O.faults out.new)) }
     ensures files { (name : List ℕ) → F.bytes files.new name ≡ F.bytes files.old name }
     ensures reads { F.faults files.old ≤ F.faults files.new }
     ensures writes { O.faults out.old ≤ O.faults out.new }
 {
-    let bytes = match files.read_all(alloc, file, MOST_BYTES) {
+    let bytes = match files.read_all(alloc, file, MOST_FILE_BYTES) {
         Ok(bytes) => bytes,
         Err(FileFault::Failed) => return Status::FileFault,
         Err(FileFault::TooLong) => {
             return Status::BadInput {
-                place: MOST_BYTES,
-                cause: TOO_LONG,
+                place: MOST_FILE_BYTES,
+                cause: causes::FILE_TOO_LONG,
             };
         }
         Err(FileFault::NoMemory) => return Status::NoMemory,
@@ -59,7 +59,7 @@ pub(crate) fn write_tile<O: Sink, F: Files>(
 
 /// The image in the bytes of a file, whose samples stay where they stand, or the status of a run that ends here.
 fn image_of(bytes: Vec<u8>) -> Result<Image, Status>
-    requires { vec_len bytes ≤ most_bytes }
+    requires { vec_len bytes ≤ MOST_FILE_BYTES }
     ensures { Reads result bytes.items }
 {
     let len = bytes.len() as u64;
@@ -69,16 +69,16 @@ fn image_of(bytes: Vec<u8>) -> Result<Image, Status>
     }
 }
 
-/// The status for a fault of a file with so many bytes.
+/// The status for a fault of a file that has `len` bytes.
 fn status_of(len: u64, fault: PgmFault) -> Status
     ensures { StatusFor len fault result }
 {
     let (place, cause) = match fault {
-        PgmFault::BadMagic => (0, 11),
-        PgmFault::BadNumber { at } => (at, 12),
-        PgmFault::TooLarge { at } => (at, 13),
-        PgmFault::Short { .. } => (len, 14),
-        PgmFault::WideSamples { at } => (at, 15),
+        PgmFault::BadMagic => (0, causes::BAD_MAGIC),
+        PgmFault::BadNumber { at } => (at, causes::BAD_NUMBER),
+        PgmFault::TooLarge { at } => (at, causes::TOO_LARGE),
+        PgmFault::Short { .. } => (len, causes::SHORT),
+        PgmFault::WideSamples { at } => (at, causes::WIDE_SAMPLES),
         PgmFault::NoMemory => return Status::NoMemory,
     };
     Status::BadInput { place, cause }

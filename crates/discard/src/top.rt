@@ -1,15 +1,14 @@
-ghost use Rattle.std.specs.Prelude.{◌≡◌, ℕ, ◌≤◌, ◌↔◌, List, None};
-ghost use Rattle.replay_run.specs.Ending.{devices, Ends};
-ghost use Rattle.discard.specs.Words.{texts, order_of};
-ghost use Rattle.discard.specs.Report.{status_line, Tells};
-ghost use Rattle.discard.specs.TileRun.{drives, TileEnds};
-ghost use Rattle.discard.specs.Top.{IfUnlawful, IfReplay, IfTile, HandsOn};
+ghost use Rattle.std.specs.Prelude.{◌≡◌, ◌↔◌, None};
+ghost use Rattle.discard.specs.Words.{texts};
+ghost use Rattle.discard.specs.Commands.{order_of};
+ghost use Rattle.discard.specs.Report.{telling};
+ghost use Rattle.discard.specs.Top.{outside, Runs, ProgramEnds, handed_on};
 
+use crate::orders::{Order, order_of};
 use crate::report::tell;
 use crate::tile_run::write_tile;
-use crate::words::{Order, order_of};
 use discard_io::{Clock, Files, Gate, Sink, Source, Status};
-use replay_run::{ReplayCfg, Replayed, replay};
+use replay_run::{Replayed, replay};
 use std::alloc::Global;
 use std::sync::Wait;
 use std::thread::Threads;
@@ -35,9 +34,9 @@ pub struct Ended {
 /// `replay` reads a script from `input` to its end, runs it, and writes the reply to each command on `out`.
 /// `tile FILE Z X Y` reads the image in a file, and writes one of its tiles on `out`, with a head of its own. With
 /// `--side` the tile has 64, 128 or 256 pixels a side, and 256 without it. All that is written on `out` is made before
-/// the first byte is written, so memory is never wanting once something was.
+/// the first byte is written, so a run that is out of memory has written nothing there.
 ///
-/// A run that isn't done tells its status on `report` in one line.
+/// A run that is not done tells its status on `report` in one line.
 pub fn discard<
     H: Threads + Wait + Sync,
     S: Source,
@@ -57,34 +56,15 @@ pub fn discard<
     clock: &C,
     gate: &T,
 ) -> Ended
-    // Usage comes exactly for words that are not lawful, and then nothing was touched but the report.
+    ensures ends { ProgramEnds (order_of (texts words.now)) result
+        (outside (S.left input.old) (S.faults input.old) (O.written out.old) (O.faults out.old)
+        (F.bytes files.old) (F.faults files.old))
+        (outside (S.left input.new) (S.faults input.new) (O.written out.new) (O.faults out.new)
+        (F.bytes files.new) (F.faults files.new))
+        (telling (E.written report.old) (E.faults report.old))
+        (telling (E.written report.new) (E.faults report.new)) }
+    // Usage comes exactly for words that are not lawful.
     ensures usage { (result.status ≡ Status.Usage) ↔ (order_of (texts words.now) ≡ None) }
-    ensures untouched { IfUnlawful (order_of (texts words.now)) (
-        (devices (S.left input.new) (S.faults input.new) (O.written out.new) (O.faults out.new)
-        ≡ devices (S.left input.old) (S.faults input.old) (O.written out.old) (O.faults out.old))
-        × (F.faults files.new ≡ F.faults files.old) × (result.run ≡ Run.Nothing)) }
-
-    // A replay ends by what its input was, and by what was written. It leaves the files alone.
-    ensures replay { IfReplay (order_of (texts words.now)) (
-        Ends result.status
-        (devices (S.left input.old) (S.faults input.old) (O.written out.old) (O.faults out.old))
-        (devices (S.left input.new) (S.faults input.new) (O.written out.new) (O.faults out.new))
-        × HandsOn result.status result.run × (F.faults files.new ≡ F.faults files.old)) }
-
-    // A tile ends by what stood in its file, and by what was written. It leaves the input alone.
-    ensures tile { IfTile (order_of (texts words.now)) (λ file tile side.
-        TileEnds side tile result.status
-        (drives (F.bytes files.old file) (F.faults files.old) (O.written out.old) (O.faults out.old))
-        (drives (F.bytes files.new file) (F.faults files.new) (O.written out.new) (O.faults out.new))
-        × (S.left input.new ≡ S.left input.old) × (S.faults input.new ≡ S.faults input.old) × (result.run ≡ Run.Nothing)) }
-
-    // The report gets the line of the status, which is empty for Done.
-    ensures report { Tells (E.written report.old) (E.faults report.old) (status_line result.status) (E.written report.new) (E.faults report.new) }
-
-    // What stands under each name stays, and no count of faults falls.
-    ensures files { (name : List ℕ) → F.bytes files.new name ≡ F.bytes files.old name }
-    ensures later { (S.faults input.old ≤ S.faults input.new) × (O.faults out.old ≤ O.faults out.new)
-        × (E.faults report.old ≤ E.faults report.new) × (F.faults files.old ≤ F.faults files.new) }
 {
     let ended = run_words(alloc, words, input, out, files);
     tell(report, ended.status);
@@ -99,28 +79,16 @@ fn run_words<S: Source, O: Sink, F: Files>(
     out: &mut O,
     files: &mut F,
 ) -> Ended
+    ensures runs { Runs (order_of (texts words.now)) result
+        (outside (S.left input.old) (S.faults input.old) (O.written out.old) (O.faults out.old)
+        (F.bytes files.old) (F.faults files.old))
+        (outside (S.left input.new) (S.faults input.new) (O.written out.new) (O.faults out.new)
+        (F.bytes files.new) (F.faults files.new)) }
     ensures usage { (result.status ≡ Status.Usage) ↔ (order_of (texts words.now) ≡ None) }
-    ensures untouched { IfUnlawful (order_of (texts words.now)) (
-        (devices (S.left input.new) (S.faults input.new) (O.written out.new) (O.faults out.new)
-        ≡ devices (S.left input.old) (S.faults input.old) (O.written out.old) (O.faults out.old))
-        × (F.faults files.new ≡ F.faults files.old) × (result.run ≡ Run.Nothing)) }
-    ensures replay { IfReplay (order_of (texts words.now)) (
-        Ends result.status
-        (devices (S.left input.old) (S.faults input.old) (O.written out.old) (O.faults out.old))
-        (devices (S.left input.new) (S.faults input.new) (O.written out.new) (O.faults out.new))
-        × HandsOn result.status result.run × (F.faults files.new ≡ F.faults files.old)) }
-    ensures tile { IfTile (order_of (texts words.now)) (λ file tile side.
-        TileEnds side tile result.status
-        (drives (F.bytes files.old file) (F.faults files.old) (O.written out.old) (O.faults out.old))
-        (drives (F.bytes files.new file) (F.faults files.new) (O.written out.new) (O.faults out.new))
-        × (S.left input.new ≡ S.left input.old) × (S.faults input.new ≡ S.faults input.old) × (result.run ≡ Run.Nothing)) }
-    ensures files { (name : List ℕ) → F.bytes files.new name ≡ F.bytes files.old name }
-    ensures later { (S.faults input.old ≤ S.faults input.new) × (O.faults out.old ≤ O.faults out.new)
-        × (F.faults files.old ≤ F.faults files.new) }
 {
     match order_of(words) {
         None => empty_handed(Status::Usage),
-        Some(Order::Replay) => run_replay(alloc, input, out),
+        Some(Order::Replay(cfg)) => handed_on(replay(alloc, &cfg, input, out)),
         Some(Order::Tile { file, tile, side }) => {
             empty_handed(write_tile(alloc, file, tile, side, out, files))
         }
@@ -137,14 +105,10 @@ fn empty_handed(status: Status) -> Ended
     }
 }
 
-fn run_replay<S: Source, O: Sink>(alloc: Global, input: &mut S, out: &mut O) -> Ended
-    ensures ends { Ends result.status
-        (devices (S.left input.old) (S.faults input.old) (O.written out.old) (O.faults out.old))
-        (devices (S.left input.new) (S.faults input.new) (O.written out.new) (O.faults out.new)) }
-    ensures hands_on { HandsOn result.status result.run }
-    ensures later { (S.faults input.old ≤ S.faults input.new) × (O.faults out.old ≤ O.faults out.new) }
+/// A replay hands on its answer where it is done, and else nothing.
+fn handed_on(replayed: Replayed) -> Ended
+    ensures { result ≡ record { status = replayed.status; run = handed_on replayed } }
 {
-    let replayed = replay(alloc, &ReplayCfg::default(), input, out);
     let status = replayed.status;
     let run = match status {
         Status::Done => Run::Replay(replayed),

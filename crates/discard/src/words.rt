@@ -1,220 +1,226 @@
-ghost use Rattle.std.specs.Prelude.{◌≡◌, ◌≤◌, ℕ, List, ◌∷◌, length, option_map, IfSome, IfNone};
-ghost use Rattle.line_text.specs.Number.{number_in};
-ghost use Rattle.discard.specs.Words.{texts, is_dashed, given_after, given, order_of, tile_order, replay_order, side_of, with_positional, with_side};
-ghost use Rattle.discard.specs.Orders.{given_value, order_value, HasTooMany, IsSide, CanBeMade};
+//! The words behind a command: positional words, and options with their values. Reading them takes no memory.
 
-use line_text::read_number;
-use tile_source::Tile;
+ghost use Rattle.std.specs.Prelude.{◌≡◌, ◌<◌, ◌≤◌, Bool, true, false, ℕ, List, [], ◌∷◌, ◌++◌, Some, None, length, option_map, IfSome, IfNone, IsSome, is_some, bytes_eq, slice_index_or, slice_set, if◌then◌else◌};
+ghost use Rattle.std.specs.List.{before_first, after_first, position};
+ghost use Rattle.discard.specs.Words.{GivenWords, texts, texts_of, is_option, has_value, name_in, value_in, is_dashed, is_equals, given_from, only_positional, with_positional, with_option, words_given, has_option, value_of, place_in};
+ghost use Rattle.discard.specs.Given.{AreWords, kept_at, IsGiven, Finds, IsRead};
 
-/// What the words of the command line ask for.
-#[derive(Clone, Copy, Debug)]
-pub(crate) enum Order<'a> {
-    /// A script from the input is run.
-    Replay,
-    /// One tile of the image in a file is written.
-    Tile {
-        file: &'a str,
-        tile: Tile,
-        side: u32,
-    },
-}
-
-/// What the next word is read as.
-#[derive(Clone, Copy, Debug)]
-enum Next {
-    /// A positional word, an option, or the end of the options.
-    Any,
-    /// The value of `--side`.
-    Value,
-    /// A positional word, since the options have ended.
-    Positional,
-}
+/// The most options that a command has. With it the words are read without memory.
+const MOST_OPTIONS: usize = 7;
 
 /// Words in their order. No command has more than four.
 #[derive(Clone, Copy, Debug)]
-enum FewWords<'a> {
+pub(crate) enum FewWords<'a> {
     Zero,
     One(&'a str),
     Two(&'a str, &'a str),
     Three(&'a str, &'a str, &'a str),
     Four(&'a str, &'a str, &'a str, &'a str),
+    /// More than four.
+    More,
 }
+
+/// The value of each option, at the place of its name.
+type Values<'a> = [Option<&'a str>; MOST_OPTIONS];
 
 /// What the words behind a command give.
 #[derive(Clone, Copy, Debug)]
-struct Given<'a> {
-    positional: FewWords<'a>,
-    /// The value of `--side`.
-    side: Option<&'a [u8]>,
+pub(crate) struct Given<'a> {
+    pub(crate) positional: FewWords<'a>,
+    values: Values<'a>,
 }
 
-/// What the words ask for. None comes exactly where they are not lawful. It takes no memory.
-pub(crate) fn order_of(words: &[String]) -> Option<Order<'_>>
-    ensures value { option_map order_value result ≡ order_of (texts words.now) }
-    ensures lawful { IfSome result CanBeMade }
-{
-    let (command, words) = words.split_first()?;
-    let command = command.as_str();
-    if command == "replay" {
-        return replay_order(words);
-    }
-    if command == "tile" {
-        return tile_order(words);
-    }
-    None
+/// What a word is, where options may still come.
+#[derive(Clone, Copy, Debug)]
+enum Word<'a> {
+    /// It ends the options.
+    End,
+    /// It names an option, whose value is the next word.
+    Named(&'a str),
+    /// It names an option and has its value.
+    Assigned(&'a str, &'a str),
+    /// It is refused.
+    Wrong,
+    Positional,
 }
 
-fn replay_order(words: &[String]) -> Option<Order<'_>>
-    ensures value { option_map order_value result ≡ replay_order (texts words.now) }
-    ensures lawful { IfSome result CanBeMade }
-{
-    let given = words_given(words)?;
-    match (given.positional, given.side) {
-        (FewWords::Zero, None) => Some(Order::Replay),
-        _ => None,
-    }
-}
-
-fn tile_order(words: &[String]) -> Option<Order<'_>>
-    ensures value { option_map order_value result ≡ tile_order (texts words.now) }
-    ensures lawful { IfSome result CanBeMade }
-{
-    let given = words_given(words)?;
-    let FewWords::Four(file, z, x, y) = given.positional else {
-        return None;
-    };
-    if file.is_empty() {
-        return None;
-    }
-    let z = number(z, 6)?;
-    let x = number(x, 65535)?;
-    let y = number(y, 65535)?;
-    let side = side_of(given.side)?;
-    let tile = Tile { z, x, y };
-    Some(Order::Tile { file, tile, side })
-}
-
-/// The number that a word is, if it is at most this.
-fn number(word: &str, most: u32) -> Option<u32>
-    ensures value { result ≡ number_in word.now 0 most }
-    ensures within { IfSome result (λ n. n ≤ most) }
-{
-    let number = read_number(word.as_bytes(), 0, u64::from(most))?;
-    Some(number as u32)
-}
-
-/// The side that is asked for, which is 256 where none is given.
-fn side_of(value: Option<&[u8]>) -> Option<u32>
-    ensures value { result ≡ side_of (option_map (λ word. word.now) value.entry) }
-    ensures lawful { IfSome result IsSide }
-{
-    let Some(word) = value else {
-        return Some(256);
-    };
-    match read_number(word, 64, 256)? {
-        64 => Some(64),
-        128 => Some(128),
-        256 => Some(256),
-        _ => None,
-    }
-}
-
-/// What the words behind a command give, or None where one is refused, or where more are positional than any command
-/// has.
-fn words_given<'a>(words: &'a [String]) -> Option<Given<'a>>
-    ensures some { IfSome result (λ found. given (texts words.now) ≡ Some (given_value found)) }
-    ensures none { IfNone result (IfSome (given (texts words.now)) HasTooMany) }
+/// What the words behind a command give, where its options have these names. None where a word is refused, where an
+/// option has no value, or where one stands twice. It takes no memory.
+pub(crate) fn words_given<'a>(names: &[&str], words: &'a [String]) -> Option<Given<'a>>
+    requires few { length names.now ≤ MOST_OPTIONS }
+    ensures { Finds (texts_of names.now) result
+        (words_given (texts_of names.now) (texts words.now)) }
 {
     let mut given = Given {
         positional: FewWords::Zero,
-        side: None,
+        values: [None; MOST_OPTIONS],
     };
-    let mut next = Next::Any;
     let mut rest = words;
     while let Some((word, behind)) = rest.split_first() {
-        (given, next) = taken(given, next, word.as_str())?;
         rest = behind;
+        let word = word.as_str();
+        match word_of(names, word) {
+            Word::End => return Some(all_positional(given, rest)),
+            Word::Named(name) => {
+                let (value, behind) = rest.split_first()?;
+                rest = behind;
+                given = with_option(names, given, name, value.as_str())?;
+            }
+            Word::Assigned(name, value) => given = with_option(names, given, name, value)?,
+            Word::Wrong => return None,
+            Word::Positional => given = with_positional(given, word),
+        }
     }
-    match next {
-        Next::Value => None,
-        Next::Any | Next::Positional => Some(given),
-    }
+    Some(given)
 }
 
-/// What is given with one word more, and what the word behind it is read as.
-fn taken<'a>(given: Given<'a>, next: Next, word: &'a str) -> Option<(Given<'a>, Next)>
-    ensures some { IfSome result (λ more. (rest : List (List ℕ)) →
-        given_after (given_value given.entry) next (word.now ∷ rest) ≡ given_after (given_value more.0) more.1 rest) }
-    ensures none { IfNone result ((rest : List (List ℕ)) →
-        IfSome (given_after (given_value given.entry) next (word.now ∷ rest)) HasTooMany) }
+/// The value of the option with this name, if it was given, where the options have these names.
+pub(crate) fn option_value<'a>(names: &[&str], given: Given<'a>, name: &str) -> Option<&'a str>
+    requires few { length names.now ≤ MOST_OPTIONS }
+    ensures { (all : GivenWords) → IsGiven (texts_of names.now) given.entry all
+        → option_map (λ value. value.now) result ≡ value_of name.now all.options }
 {
-    match next {
-        Next::Any => any_taken(given, word),
-        Next::Value => Some((side_taken(given, word.as_bytes())?, Next::Any)),
-        Next::Positional => Some((positional_taken(given, word)?, Next::Positional)),
-    }
+    let place = place_of(names, name)?;
+    given.values[place]
 }
 
-/// What is given with one word more, which may be an option or the end of the options.
-fn any_taken<'a>(given: Given<'a>, word: &'a str) -> Option<(Given<'a>, Next)>
-    ensures some { IfSome result (λ more. (rest : List (List ℕ)) →
-        given_after (given_value given.entry) Next.Any (word.now ∷ rest) ≡ given_after (given_value more.0) more.1 rest) }
-    ensures none { IfNone result ((rest : List (List ℕ)) →
-        IfSome (given_after (given_value given.entry) Next.Any (word.now ∷ rest)) HasTooMany) }
+/// What a word is.
+fn word_of<'a>(names: &[&str], word: &'a str) -> Word<'a>
+    ensures { IsRead (texts_of names.now) word.now result }
 {
     if word == "--" {
-        return Some((given, Next::Positional));
+        return Word::End;
     }
-    if word == "--side" {
-        return Some((given, Next::Value));
+    if let Some(text) = word.strip_prefix("--") {
+        let (name, value) = option_parts(text);
+        if place_of(names, name).is_some() {
+            return match value {
+                Some(value) => Word::Assigned(name, value),
+                None => Word::Named(name),
+            };
+        }
     }
-    let bytes = word.as_bytes();
-    if bytes.starts_with(b"--side=") {
-        return Some((side_taken(given, &bytes[7..])?, Next::Any));
+    if is_dashed(word) {
+        Word::Wrong
+    } else {
+        Word::Positional
     }
-    if is_dashed(bytes) {
-        return None;
+}
+
+/// The name of an option, and its value where it has one behind a `=`.
+fn option_parts<'a>(text: &'a str) -> (&'a str, Option<&'a str>)
+    ensures name { result.0.now ≡ before_first is_equals text.now }
+    ensures value { option_map (λ value. value.now) result.1
+        ≡ (if is_some (position is_equals text.now)
+        then Some (after_first is_equals text.now) else None) }
+{
+    match text.split_once('=') {
+        Some((name, value)) => (name, Some(value)),
+        None => (text, None),
     }
-    Some((positional_taken(given, word)?, Next::Any))
+}
+
+/// The place of a name among these.
+fn place_of(names: &[&str], name: &str) -> Option<usize>
+    ensures place { result ≡ place_in (texts_of names.now) name.now }
+    ensures within { IfSome result (λ place. place < length names.now) }
+{
+    position_of(names, name)
+}
+
+fn position_of(names: &[&str], name: &str) -> Option<usize>
+    ensures place { result ≡ position (λ known. bytes_eq known.now name.now) names.now }
+    ensures within { IfSome result (λ place. place < length names.now) }
+{
+    names.iter().position(|&known| known == name)
 }
 
 /// Whether a word begins with `-` and has more than one byte.
-fn is_dashed(word: &[u8]) -> bool
+fn is_dashed(word: &str) -> bool
     ensures { result ≡ is_dashed word.now }
 {
-    match word {
+    match word.as_bytes() {
         [first, _, ..] => *first == b'-',
         _ => false,
     }
 }
 
-/// What is given with the value of `--side`, which is given once at most.
-fn side_taken<'a>(given: Given<'a>, value: &'a [u8]) -> Option<Given<'a>>
-    ensures { option_map given_value result ≡ with_side value.now (given_value given.entry) }
+/// What is given with these words, which are all positional.
+fn all_positional<'a>(given: Given<'a>, words: &'a [String]) -> Given<'a>
+    ensures { (names : List (List ℕ)) → (front : GivenWords) → IsGiven names given.entry front
+        → IsGiven names result
+        (record front { positional = front.positional ++ texts words.now }) }
 {
-    match given.side {
-        None => Some(Given {
-            positional: given.positional,
-            side: Some(value),
-        }),
-        Some(_) => None,
+    let mut given = given;
+    for word in words {
+        given = with_positional(given, word.as_str());
+    }
+    given
+}
+
+/// What is given with one positional word more.
+fn with_positional<'a>(given: Given<'a>, word: &'a str) -> Given<'a>
+    ensures { (names : List (List ℕ)) → (front : GivenWords) → IsGiven names given.entry front
+        → IsGiven names result (record front { positional = front.positional ++ word.now ∷ [] }) }
+{
+    Given {
+        positional: with_word(given.positional, word),
+        values: given.values,
     }
 }
 
-/// What is given with one positional word more, if no command has fewer.
-fn positional_taken<'a>(given: Given<'a>, word: &'a str) -> Option<Given<'a>>
-    ensures some { IfSome result (λ more. given_value more ≡ with_positional word.now (given_value given.entry)) }
-    ensures none { IfNone result (length (given_value given.entry).positional ≡ 4) }
+/// The words with one more.
+fn with_word<'a>(few: FewWords<'a>, word: &'a str) -> FewWords<'a>
+    ensures { (words : List (List ℕ)) → AreWords few.entry words
+        → AreWords result (words ++ word.now ∷ []) }
 {
-    let positional = match given.positional {
+    match few {
         FewWords::Zero => FewWords::One(word),
         FewWords::One(a) => FewWords::Two(a, word),
         FewWords::Two(a, b) => FewWords::Three(a, b, word),
         FewWords::Three(a, b, c) => FewWords::Four(a, b, c, word),
-        FewWords::Four(..) => return None,
-    };
+        FewWords::Four(..) | FewWords::More => FewWords::More,
+    }
+}
+
+/// What is given with one option more, or None where it stands there already.
+fn with_option<'a>(
+    names: &[&str],
+    given: Given<'a>,
+    name: &str,
+    value: &'a str,
+) -> Option<Given<'a>>
+    requires few { length names.now ≤ MOST_OPTIONS }
+    requires known { IsSome (place_in (texts_of names.now) name.now) }
+    ensures once { IfSome result (λ more. (front : GivenWords)
+        → IsGiven (texts_of names.now) given.entry front
+        → IsGiven (texts_of names.now) more
+        (record front { options = front.options ++ (name.now, value.now) ∷ [] })) }
+    ensures first { IfSome result (λ more. (front : GivenWords)
+        → IsGiven (texts_of names.now) given.entry front
+        → value_of name.now front.options ≡ None) }
+    ensures twice { IfNone result ((front : GivenWords)
+        → IsGiven (texts_of names.now) given.entry front
+        → has_option name.now front.options ≡ true) }
+{
+    let place = place_of(names, name)?;
+    let kept = given.values[place];
+    if kept.is_some() {
+        return None;
+    }
     Some(Given {
-        positional,
-        side: given.side,
+        positional: given.positional,
+        values: with_value(given.values, place, value),
     })
+}
+
+/// Values with this one at a place.
+fn with_value<'a>(values: Values<'a>, place: usize, value: &'a str) -> Values<'a>
+    requires { place < MOST_OPTIONS }
+    ensures value { result ≡ slice_set values.entry place (Some value.entry) }
+    ensures within { place < length values.entry }
+{
+    let mut values = values;
+    values[place] = Some(value);
+    values
 }

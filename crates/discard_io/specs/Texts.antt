@@ -15,7 +15,7 @@ too_long_text = codes "too long"
 
 -- out of memory
 abbrev pub no_memory_text : List ℕ
-no_memory_text = codes "no memory"
+no_memory_text = codes "out of memory"
 
 -- why a file was not read
 abbrev pub fault_text : FileFault → List ℕ

@@ -2,6 +2,10 @@
 use Rattle.std.specs.Prelude.{◌≡◌}
 use Rattle.replay_run.specs.declared.config.ReplayCfg.{ReplayCfg}
 
--- the settings are those of a replay whose words name none
+-- the settings of a replay whose words name none
+abbrev pub default_settings : ReplayCfg
+default_settings = record { limit = 1048576; standard = 64; keep = 16 }
+
+-- the settings are these
 abbrev pub HoldsDefaults : ReplayCfg → Type 0
-HoldsDefaults cfg = (cfg.limit ≡ 1048576) × (cfg.standard ≡ 64) × (cfg.keep ≡ 16)
+HoldsDefaults cfg = cfg ≡ default_settings

@@ -1,14 +1,18 @@
--- How a replay ends.
-use Rattle.std.specs.Prelude.{◌≡◌, ℕ, List, drop, Option, Some, IfSome, Result, Ok, Err}
+-- How a replay ends: by its settings, its answer, and what the devices tell before it and after it. What is said of
+-- bytes is said where the devices tell them.
+use Rattle.std.specs.Prelude.{◌≡◌, ℕ, ◌+◌, ◌≤◌, List, length, take, Option, IfSome, IsNone, OnSome, Result, Ok, Err}
 use Rattle.std.specs.Global.{Vec}
 use Rattle.units.specs.Count.{HasRisen}
 use Rattle.discard_io.specs.declared.status.Status.{Status}
 use Rattle.discard_io.specs.declared.status.Status.TheVariants.{Done, NoMemory, Usage, BadInput, ReadFault, WriteFault, FileFault}
-use Rattle.discard_io.specs.Streams.{TookAll, TookAtMost, appended, WroteFront}
+use Rattle.discard_io.specs.Streams.{Took, TookAll, TookAtMost, appended, WroteFront}
+use Rattle.line_text.specs.declared.limits.TheConstants.{MOST_SCRIPT_BYTES}
 use Rattle.line_text.specs.declared.fault.ScriptFault.{ScriptFault}
 use Rattle.line_text.specs.declared.fault.ScriptFault.TheVariants.{Bad}
 use Rattle.line_text.specs.declared.fault.ScriptFault.TheVariants as memory
 use Rattle.line_text.specs.Script.{Commands, IsScript, IsRefused}
+use Rattle.replay_run.specs.declared.config.ReplayCfg.{ReplayCfg}
+use Rattle.replay_run.specs.declared.replaying.Replayed.{Replayed}
 use Rattle.replay_run.specs.Replies.{replay_text}
 
 -- what a source and a sink tell: the bytes left, the bytes written, and how often each has failed
@@ -19,37 +23,76 @@ pub record Devices : Type 0 where
   pub write_faults : ℕ
 
 abbrev pub devices : Option (List ℕ) → ℕ → Option (List ℕ) → ℕ → Devices
-devices left read_faults written write_faults = record { left = left; read_faults = read_faults; written = written; write_faults = write_faults }
+devices left read_faults written write_faults =
+    record { left = left; read_faults = read_faults; written = written; write_faults = write_faults }
 
 -- these bytes are a script
 abbrev pub IsSomeScript : List ℕ → Type 0
 IsSomeScript bytes = (commands : Commands) × IsScript bytes commands
 
--- How a replay ended, by its status, and by what the devices tell before it and after it. What is said of bytes is said
--- where the devices tell them.
-abbrev pub Ends : Status → Devices → Devices → Type 0
--- all was read, it is a script, and its replay text was written
-Ends Done before after =
-    (bytes : List ℕ) × TookAll before.left bytes after.left × IsSomeScript bytes × (after.written ≡ appended before.written (replay_text bytes))
--- What was left to read is no script, first at this place and by this cause. It was read to its end, or where it is too
--- long 1,048,577 bytes of it, and nothing was written.
-Ends (BadInput place cause) before after =
-    IfSome before.left (λ bytes. IsRefused bytes place cause × (after.left ≡ Some (drop 1048577 bytes))) × (after.written ≡ before.written)
--- the source failed, and nothing was written
-Ends ReadFault before after =
-    HasRisen before.read_faults after.read_faults × TookAtMost before.left 1048577 after.left × (after.written ≡ before.written)
--- all was read, it is a script, and the sink failed when a front of its replay text was written
-Ends WriteFault before after =
-    HasRisen before.write_faults after.write_faults
-    × ((bytes : List ℕ) × TookAll before.left bytes after.left × IsSomeScript bytes × WroteFront before.written (replay_text bytes) after.written)
--- memory was wanting, and nothing was written
-Ends NoMemory before after = TookAtMost before.left 1048577 after.left × (after.written ≡ before.written)
--- a replay ends in no other way
-Ends Usage before after = ⊥
-Ends FileFault before after = ⊥
+-- this is what a replay of these bytes with these settings answers where it is done: they are a script, and no two runs
+-- of it differ
+pub record IsReplayOf (cfg : ReplayCfg) (bytes : List ℕ) (replayed : Replayed) : Type 0 where
+  pub script : IsSomeScript bytes
+  pub done : replayed.status ≡ Done
+  pub differs : IsNone replayed.differs
 
--- what reading a script and running it gives: the replay text, or where the script is refused, unless memory is wanting
-abbrev pub Replies : Result (Vec ℕ) ScriptFault → List ℕ → Type 0
-Replies (Ok text) bytes = IsSomeScript bytes × (text.items ≡ replay_text bytes)
-Replies (Err (Bad place cause)) bytes = IsRefused bytes place cause
-Replies (Err memory.NoMemory) bytes = Unit {0}
+-- all was read, the answer is right for it, and its replay text was written
+pub record ReplayDone (cfg : ReplayCfg) (replayed : Replayed) (before after : Devices) : Type 0 where
+  pub bytes : List ℕ
+  pub read : TookAll before.left bytes after.left
+  pub right : IsReplayOf cfg bytes replayed
+  pub written : after.written ≡ appended before.written (replay_text cfg bytes)
+
+-- The bytes that were taken are no script, first at this place and for this cause, and nothing was written. They are all
+-- that was left, or where that is longer than a script its front, one byte longer than a script; all that was left is
+-- refused so too.
+pub record InputRefused (place cause : ℕ) (before after : Devices) : Type 0 where
+  pub bytes : List ℕ
+  pub taken : Took before.left bytes after.left
+  pub refused : IsRefused bytes place cause
+  pub within : length bytes ≤ MOST_SCRIPT_BYTES + 1
+  pub all : IfSome before.left (λ left. (bytes ≡ take (MOST_SCRIPT_BYTES + 1) left) × IsRefused left place cause)
+  pub unwritten : after.written ≡ before.written
+
+-- the source failed, and nothing was written
+pub record SourceFailed (before after : Devices) : Type 0 where
+  pub fault : HasRisen before.read_faults after.read_faults
+  pub taken : TookAtMost before.left MOST_SCRIPT_BYTES after.left
+  pub unwritten : after.written ≡ before.written
+
+-- all was read, it is a script, and the sink failed when a front of its replay text was written
+pub record SinkFailed (cfg : ReplayCfg) (before after : Devices) : Type 0 where
+  pub bytes : List ℕ
+  pub read : TookAll before.left bytes after.left
+  pub script : IsSomeScript bytes
+  pub fault : HasRisen before.write_faults after.write_faults
+  pub front : WroteFront before.written (replay_text cfg bytes) after.written
+
+-- it was out of memory, and nothing was written
+pub record MemoryRanOut (before after : Devices) : Type 0 where
+  pub taken : TookAtMost before.left (MOST_SCRIPT_BYTES + 1) after.left
+  pub unwritten : after.written ≡ before.written
+
+-- how a replay with this status ended; it ends in no other way
+abbrev pub EndsBy : Status → ReplayCfg → Replayed → Devices → Devices → Type 0
+EndsBy Done cfg replayed before after = ReplayDone cfg replayed before after
+EndsBy (BadInput place cause) cfg replayed before after = InputRefused place cause before after
+EndsBy ReadFault cfg replayed before after = SourceFailed before after
+EndsBy WriteFault cfg replayed before after = SinkFailed cfg before after
+EndsBy NoMemory cfg replayed before after = MemoryRanOut before after
+EndsBy Usage cfg replayed before after = ⊥
+EndsBy FileFault cfg replayed before after = ⊥
+
+-- how a replay ended: by its status, with two runs that differ only where it is done, and no count of faults fell
+pub record Ends (cfg : ReplayCfg) (replayed : Replayed) (before after : Devices) : Type 0 where
+  pub by_status : EndsBy replayed.status cfg replayed before after
+  pub differs : OnSome replayed.differs (replayed.status ≡ Done)
+  pub reads : before.read_faults ≤ after.read_faults
+  pub writes : before.write_faults ≤ after.write_faults
+
+-- what reading a script and running it gives: the replay text, or where the script is refused, or it was out of memory
+abbrev pub Replies : Result (Vec ℕ) ScriptFault → ReplayCfg → List ℕ → Type 0
+Replies (Ok text) cfg bytes = IsSomeScript bytes × (text.items ≡ replay_text cfg bytes)
+Replies (Err (Bad place cause)) cfg bytes = IsRefused bytes place cause
+Replies (Err memory.NoMemory) cfg bytes = Unit {0}

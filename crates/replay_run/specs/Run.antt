@@ -1,18 +1,17 @@
 -- What a run of a script keeps.
-use Rattle.std.specs.Prelude.{◌≡◌, List, [], ◌∷◌, ◌++◌}
-use Rattle.std.specs.List.{count_by}
-use Rattle.machine.specs.declared.event.Event.{Event}
+use Rattle.std.specs.Prelude.{◌≡◌, [], ◌∷◌}
 use Rattle.machine.specs.Segments.{StandsFor}
 use Rattle.line_text.specs.Script.{Commands}
 use Rattle.replay_run.specs.declared.run.PlainRun.{PlainRun}
-use Rattle.replay_run.specs.Replies.{is_grant, events_of}
+use Rattle.replay_run.specs.Replies.{ReplayState, grants_of, state_after}
 
--- the run is behind these events
-pub record IsBehind (run : PlainRun) (events : List Event) : Type 0 where
-  pub segments : StandsFor run.segments events
-  pub granted : run.granted ≡ count_by is_grant events
+-- the run stands for this state
+pub record RunStandsFor (run : PlainRun) (state : ReplayState) : Type 0 where
+  pub segments : StandsFor run.segments state.events
+  pub granted : run.granted ≡ grants_of state
+  pub limit : run.limit ≡ state.limit
 
--- the events of commands behind these events
-abbrev pub events_after : List Event → Commands → List Event
-events_after before [] = before
-events_after before (line ∷ lines) = events_after (before ++ events_of before line.1) lines
+-- the state after these commands
+abbrev pub state_after_all : ReplayState → Commands → ReplayState
+state_after_all state [] = state
+state_after_all state (line ∷ lines) = state_after_all (state_after state line.1) lines

@@ -1,19 +1,13 @@
-ghost use Rattle.std.specs.Prelude.{◌≡◌, ◌≤◌, IsNone};
+ghost use Rattle.std.specs.Prelude.{◌≡◌, None};
 ghost use Rattle.replay_run.specs.Config.{HoldsDefaults};
 ghost use Rattle.replay_run.specs.Ending.{devices, Ends, Replies};
 
 use crate::config::ReplayCfg;
 use crate::run::replies;
 use discard_io::{ReadEnd, Sink, Source, Status, read_to_end, write_all};
-use line_text::{ScriptFault, law_in_range, read_script};
-use units::{Bytes, NoMemory};
+use line_text::{Cause, MOST_SCRIPT_BYTES, ScriptFault, law_in_range, read_script};
 use std::alloc::Global;
-
-/// The most bytes that a script has.
-const MOST_BYTES: u64 = 1_048_576;
-
-/// The cause of a script that has more.
-const TOO_LONG: u32 = 6;
+use units::{Bytes, NoMemory};
 
 /// The first command at which two runs of a script gave different records.
 #[derive(Debug, Drop)]
@@ -36,8 +30,8 @@ pub struct Replayed {
 
 /// Reads a script from a source to its end, runs it, and writes the reply to each command as a line.
 ///
-/// A text that is no script is refused before anything runs. All replies are made before the first is written, so
-/// that memory is never wanting once something was written.
+/// A text that is no script is refused before anything runs. All replies are made before the first is written, so a
+/// replay that is out of memory has written nothing.
 pub fn replay<S: Source, O: Sink>(
     alloc: Global,
     cfg: &ReplayCfg,
@@ -45,57 +39,53 @@ pub fn replay<S: Source, O: Sink>(
     sink: &mut O,
 ) -> Replayed
     requires defaults { HoldsDefaults cfg.now }
-    ensures ends { Ends result.status
-        (devices (S.left source.old) (S.faults source.old) (O.written sink.old) (O.faults sink.old))
-        (devices (S.left source.new) (S.faults source.new) (O.written sink.new) (O.faults sink.new)) }
-    ensures differs { IsNone result.differs }
-    ensures reads { S.faults source.old ≤ S.faults source.new }
-    ensures writes { O.faults sink.old ≤ O.faults sink.new }
+    ensures ends { Ends cfg.now result
+        (devices (S.left source.old) (S.faults source.old)
+        (O.written sink.old) (O.faults sink.old))
+        (devices (S.left source.new) (S.faults source.new)
+        (O.written sink.new) (O.faults sink.new)) }
 {
-    let _ = cfg;
+    let bytes = match read_to_end(alloc, source, MOST_SCRIPT_BYTES) {
+        Ok(bytes) => bytes,
+        Err(ReadEnd::Failed) => return ended(Status::ReadFault),
+        Err(ReadEnd::TooLong) => return refused(MOST_SCRIPT_BYTES, Cause::Long.number()),
+        Err(ReadEnd::NoMemory) => return ended(Status::NoMemory),
+    };
+    let text = match text_of(alloc, cfg, bytes) {
+        Ok(text) => text,
+        Err(ScriptFault::Bad { place, cause }) => return refused(place, cause),
+        Err(ScriptFault::NoMemory) => return ended(Status::NoMemory),
+    };
+    match write_all(sink, &text) {
+        Ok(()) => ended(Status::Done),
+        Err(_) => ended(Status::WriteFault),
+    }
+}
+
+fn refused(place: u64, cause: u32) -> Replayed
+    ensures { result ≡ record { status = Status.BadInput place cause; differs = None } }
+{
+    ended(Status::BadInput { place, cause })
+}
+
+/// The answer of a replay that ended so.
+fn ended(status: Status) -> Replayed
+    ensures { result ≡ record { status = status; differs = None } }
+{
     Replayed {
-        status: read_and_run(alloc, source, sink),
+        status,
         differs: None,
     }
 }
 
-fn read_and_run<S: Source, O: Sink>(alloc: Global, source: &mut S, sink: &mut O) -> Status
-    ensures ends { Ends result
-        (devices (S.left source.old) (S.faults source.old) (O.written sink.old) (O.faults sink.old))
-        (devices (S.left source.new) (S.faults source.new) (O.written sink.new) (O.faults sink.new)) }
-    ensures reads { S.faults source.old ≤ S.faults source.new }
-    ensures writes { O.faults sink.old ≤ O.faults sink.new }
-{
-    let bytes = match read_to_end(alloc, source, MOST_BYTES) {
-        Ok(bytes) => bytes,
-        Err(ReadEnd::Failed) => return Status::ReadFault,
-        Err(ReadEnd::TooLong) => {
-            return Status::BadInput {
-                place: MOST_BYTES,
-                cause: TOO_LONG,
-            };
-        }
-        Err(ReadEnd::NoMemory) => return Status::NoMemory,
-    };
-    let text = match text_of(alloc, bytes) {
-        Ok(text) => text,
-        Err(ScriptFault::Bad { place, cause }) => return Status::BadInput { place, cause },
-        Err(ScriptFault::NoMemory) => return Status::NoMemory,
-    };
-    match write_all(sink, &text) {
-        Ok(()) => Status::Done,
-        Err(_) => Status::WriteFault,
-    }
-}
-
 /// The replay text of a script, or where it is refused.
-fn text_of(alloc: Global, bytes: Vec<u8>) -> Result<Vec<u8>, ScriptFault>
-    ensures { Replies result bytes.items }
+fn text_of(alloc: Global, cfg: &ReplayCfg, bytes: Vec<u8>) -> Result<Vec<u8>, ScriptFault>
+    ensures { Replies result cfg.now bytes.items }
 {
     let script = read_script(alloc, &bytes)?;
     drop(bytes);
     law_in_range();
-    match replies(alloc, script) {
+    match replies(alloc, cfg, script) {
         Ok(text) => Ok(text),
         Err(NoMemory) => Err(ScriptFault::NoMemory),
     }

@@ -3,9 +3,10 @@ ghost use Rattle.hex.specs.Hex.{encode_lower};
 ghost use Rattle.replay_run.specs.Replies.{answer_text};
 
 use itoa::Buffer;
-use machine::{Answer, NoMemory};
+use machine::Answer;
+use units::NoMemory;
 
-/// Adds the words of an answer behind a text.
+/// Adds the words of an answer to the end of a text.
 pub(crate) fn push_answer(text: &mut Vec<u8>, answer: Answer) -> Result<(), NoMemory>
     ensures { OnOk result (text.new.items ≡ text.old.items ++ answer_text answer) }
 {
@@ -38,7 +39,7 @@ fn push_number(text: &mut Vec<u8>, words: &[u8], number: u64) -> Result<(), NoMe
     push(text, buffer.format(number).as_bytes())
 }
 
-/// Adds bytes in lower-case hexadecimal digits behind a text.
+/// Adds bytes in lower-case hexadecimal digits to the end of a text.
 pub(crate) fn push_hex(text: &mut Vec<u8>, bytes: &[u8]) -> Result<(), NoMemory>
     requires { length bytes.now ≤ 2 ^ 32 }
     ensures { OnOk result (text.new.items ≡ text.old.items ++ encode_lower bytes.now) }

@@ -1,75 +1,50 @@
-ghost use Rattle.std.specs.Prelude.{◌≡◌, ℕ, ◌+◌, ◌-◌, ◌^◌, ◌<◌, ◌≤◌, List, [], ◌∷◌, ◌++◌, OnOk, IfOk, vec_len};
-ghost use Rattle.machine.specs.declared.event.Event.{Event};
-ghost use Rattle.machine.specs.Answers.{answer};
+ghost use Rattle.std.specs.Prelude.{◌≡◌, ◌+◌, ◌-◌, ◌^◌, ◌<◌, ◌≤◌, ◌∷◌, [], ◌++◌, OnOk, IfOk};
 ghost use Rattle.machine.specs.Segments.{StandsFor};
-ghost use Rattle.line_text.specs.Ranges.{IsInRange, AreInRange};
-ghost use Rattle.replay_run.specs.Replies.{answer_text, read_text, events_of, reply_of, replies_after};
-ghost use Rattle.replay_run.specs.Run.{IsBehind};
+ghost use Rattle.line_text.specs.Ranges.{IsByteCount, IsInRange, AreInRange};
+ghost use Rattle.replay_run.specs.Replies.{ReplayState, first_state, after_event, next_grant, answered, read_text, reply_of, state_after, replies_after};
+ghost use Rattle.replay_run.specs.Run.{RunStandsFor};
 
+use crate::config::ReplayCfg;
 use crate::reply::{push_answer, push_hex};
 use line_text::{Command, Script};
-use machine::{Answer, Event, NoMemory, PlainSegments};
+use machine::{Answer, Event, PlainSegments};
 use std::alloc::Global;
+use units::NoMemory;
 
-/// A run of a script on the plain segments.
+/// A run of a script on the plain segments. It stands for the state of a replay.
 #[derive(Drop)]
 pub(crate) struct PlainRun {
     segments: PlainSegments,
     /// How many segments were granted: a grant draws the next number.
     granted: u64,
+    /// The limit of granted pages now.
+    limit: u64,
     /// Room for the bytes of a read, kept from one read to the next.
     room: Vec<u8>,
 }
 
 impl PlainRun {
     /// A run before its first command.
-    fn new(alloc: Global) -> Result<PlainRun, NoMemory>
-        ensures behind { IfOk result (λ run. IsBehind run []) }
+    fn new(alloc: Global, cfg: &ReplayCfg) -> Result<PlainRun, NoMemory>
+        ensures first { IfOk result (λ run. RunStandsFor run (first_state cfg.now)) }
         ensures none { IfOk result (λ run. run.granted ≡ 0) }
     {
         Ok(PlainRun {
             segments: PlainSegments::new(alloc)?,
             granted: 0,
+            limit: cfg.limit,
             room: Vec::new(alloc),
         })
-    }
-
-    /// Adds the reply to an event, which happens in it.
-    fn happen(&mut self, alloc: Global, event: &Event, text: &mut Vec<u8>) -> Result<(), NoMemory>
-        ensures text { OnOk result ((events : List Event) → StandsFor self.old.segments events
-            → text.new.items ≡ text.old.items ++ answer_text (answer events event.now)) }
-        ensures segments { OnOk result ((events : List Event) → StandsFor self.old.segments events
-            → StandsFor self.new.segments (events ++ event.now ∷ [])) }
-        ensures granted { self.new.granted ≡ self.old.granted }
-    {
-        let answer = self.segments.step(alloc, event)?;
-        push_answer(text, answer)
-    }
-
-    /// Adds the reply to a read.
-    fn read(&mut self, id: u64, place: u64, count: u64, text: &mut Vec<u8>) -> Result<(), NoMemory>
-        requires { count ≤ 4096 }
-        ensures text { OnOk result ((events : List Event) → StandsFor self.old.segments events
-            → text.new.items ≡ text.old.items ++ read_text events id place count) }
-        ensures segments { self.new.segments ≡ self.old.segments }
-        ensures granted { self.new.granted ≡ self.old.granted }
-    {
-        self.room.resize(count as usize, 0)?;
-        if self.segments.read(id, place, count as u32, &mut self.room) {
-            push_hex(text, &self.room)
-        } else {
-            push_answer(text, Answer::Misuse)
-        }
     }
 
     /// Runs a command, and adds its reply, a line.
     fn run(&mut self, alloc: Global, command: Command, text: &mut Vec<u8>) -> Result<(), NoMemory>
         requires range { IsInRange command }
         requires room { self.old.granted < 2 ^ 64 - 1 }
-        ensures text { OnOk result ((events : List Event) → IsBehind self.old events
-            → text.new.items ≡ text.old.items ++ (reply_of events command ++ 10 ∷ [])) }
-        ensures behind { OnOk result ((events : List Event) → IsBehind self.old events
-            → IsBehind self.new (events ++ events_of events command)) }
+        ensures text { OnOk result ((state : ReplayState) → RunStandsFor self.old state
+            → text.new.items ≡ text.old.items ++ (reply_of state command ++ 10 ∷ [])) }
+        ensures state { OnOk result ((state : ReplayState) → RunStandsFor self.old state
+            → RunStandsFor self.new (state_after state command)) }
         ensures granted { OnOk result (self.new.granted ≤ self.old.granted + 1) }
     {
         self.reply(alloc, command, text)?;
@@ -81,10 +56,10 @@ impl PlainRun {
     fn reply(&mut self, alloc: Global, command: Command, text: &mut Vec<u8>) -> Result<(), NoMemory>
         requires range { IsInRange command }
         requires room { self.old.granted < 2 ^ 64 - 1 }
-        ensures text { OnOk result ((events : List Event) → IsBehind self.old events
-            → text.new.items ≡ text.old.items ++ reply_of events command) }
-        ensures behind { OnOk result ((events : List Event) → IsBehind self.old events
-            → IsBehind self.new (events ++ events_of events command)) }
+        ensures text { OnOk result ((state : ReplayState) → RunStandsFor self.old state
+            → text.new.items ≡ text.old.items ++ reply_of state command) }
+        ensures state { OnOk result ((state : ReplayState) → RunStandsFor self.old state
+            → RunStandsFor self.new (state_after state command)) }
         ensures granted { OnOk result (self.new.granted ≤ self.old.granted + 1) }
     {
         match command {
@@ -130,10 +105,10 @@ impl PlainRun {
         text: &mut Vec<u8>,
     ) -> Result<(), NoMemory>
         requires { self.old.granted < 2 ^ 64 - 1 }
-        ensures text { OnOk result ((events : List Event) → IsBehind self.old events
-            → text.new.items ≡ text.old.items ++ answer_text (answer events (Event.Grant (self.old.granted + 1) client pages))) }
-        ensures behind { OnOk result ((events : List Event) → IsBehind self.old events
-            → IsBehind self.new (events ++ Event.Grant (self.old.granted + 1) client pages ∷ [])) }
+        ensures text { OnOk result ((state : ReplayState) → RunStandsFor self.old state
+            → text.new.items ≡ text.old.items ++ answered state (next_grant state client pages)) }
+        ensures state { OnOk result ((state : ReplayState) → RunStandsFor self.old state
+            → RunStandsFor self.new (after_event state (next_grant state client pages))) }
         ensures granted { OnOk result (self.new.granted ≡ self.old.granted + 1) }
     {
         let id = self.granted + 1;
@@ -141,14 +116,42 @@ impl PlainRun {
         self.granted = id;
         Ok(())
     }
+
+    /// Adds the reply to an event, which happens in it.
+    fn happen(&mut self, alloc: Global, event: &Event, text: &mut Vec<u8>) -> Result<(), NoMemory>
+        ensures text { OnOk result ((state : ReplayState) → StandsFor self.old.segments state.events
+            → text.new.items ≡ text.old.items ++ answered state event.now) }
+        ensures segments { OnOk result ((state : ReplayState)
+            → StandsFor self.old.segments state.events
+            → StandsFor self.new.segments (after_event state event.now).events) }
+        ensures others { self.new ≡ record self.old { segments = self.new.segments } }
+    {
+        let answer = self.segments.step(alloc, event)?;
+        push_answer(text, answer)
+    }
+
+    /// Adds the reply to a read, which changes nothing but the room.
+    fn read(&mut self, id: u64, place: u64, count: u64, text: &mut Vec<u8>) -> Result<(), NoMemory>
+        requires { IsByteCount count }
+        ensures text { OnOk result ((state : ReplayState) → StandsFor self.old.segments state.events
+            → text.new.items ≡ text.old.items ++ read_text state id place count) }
+        ensures others { self.new ≡ record self.old { room = self.new.room } }
+    {
+        self.room.resize(count as usize, 0)?;
+        if self.segments.read(id, place, count as u32, &mut self.room) {
+            push_hex(text, &self.room)
+        } else {
+            push_answer(text, Answer::Misuse)
+        }
+    }
 }
 
 /// The replies to all commands of a script, each a line.
-pub(crate) fn replies(alloc: Global, script: Script) -> Result<Vec<u8>, NoMemory>
+pub(crate) fn replies(alloc: Global, cfg: &ReplayCfg, script: Script) -> Result<Vec<u8>, NoMemory>
     requires { AreInRange script }
-    ensures { IfOk result (λ text. text.items ≡ replies_after [] script) }
+    ensures { IfOk result (λ text. text.items ≡ replies_after (first_state cfg.now) script) }
 {
-    let mut run = PlainRun::new(alloc)?;
+    let mut run = PlainRun::new(alloc, cfg)?;
     let mut text = Vec::new(alloc);
     for (_, command) in script.into_commands() {
         run.run(alloc, command, &mut text)?;

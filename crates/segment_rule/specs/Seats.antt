@@ -96,6 +96,14 @@ abbrev pub warden_hand : Bool → List (ℕ × Slot)
 warden_hand true = (0, None) ∷ []
 warden_hand false = []
 
+-- the seat is the owner's, at this stage of its segment
+abbrev pub IsOwnerAt : Stage → Me Slot View → Type 0
+IsOwnerAt stage me = (me ≡ (Owner (owner_of me.0), owner_hand stage)) × ((owner_of me.0).phase ≡ stage)
+
+-- the seat is the warden's, which has not taken the block
+abbrev pub IsFreeWarden : Me Slot View → Type 0
+IsFreeWarden me = (me ≡ (Warden (warden_of me.0), [])) × ((warden_of me.0).taken ≡ false)
+
 -- what is known of an owner's seat between its steps
 pub record IsOwner (table seat : TableId) (me : Me Slot View) : Type 0 where
   pub fits : Fits seat table

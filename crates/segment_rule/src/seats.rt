@@ -1,5 +1,5 @@
 //! The two seats of a segment: each makes its own kinds of step, at most one in a call.
-ghost use Rattle.std.specs.Prelude.{◌≡◌, ◌≢◌, ◌*◌, ◌≤◌, false, IfOk, IfSome, MatchBool, MatchOption, length};
+ghost use Rattle.std.specs.Prelude.{◌≡◌, ◌≢◌, ◌*◌, ◌≤◌, false, IfOk, IfSome, MatchBool, MatchOption, length, ℕ, List, Some, None};
 ghost use Rattle.units.specs.declared.TheConstants.{PAGE};
 ghost use Rattle.units.specs.Moment.{IsMoment};
 ghost use Rattle.segment_rule.specs.declared.view.Stage.TheVariants.{Held, Idle};
@@ -33,7 +33,8 @@ impl Model for OwnerSeat {
 
     ghost view = { λ s. owner_of s.seat.me.0 };
 
-    ghost invariant = { λ s. IsOwner (arc_value s.table).shared.table_id s.seat.table_id s.seat.me };
+    ghost invariant = { λ s.
+        IsOwner (arc_value s.table).shared.table_id s.seat.table_id s.seat.me };
 }
 
 /// The warden's seat at a segment.
@@ -52,7 +53,8 @@ impl Model for WardenSeat {
 
     ghost view = { λ s. warden_of s.seat.me.0 };
 
-    ghost invariant = { λ s. IsWarden (arc_value s.table).shared.table_id s.seat.table_id s.seat.me };
+    ghost invariant = { λ s.
+        IsWarden (arc_value s.table).shared.table_id s.seat.table_id s.seat.me };
 }
 
 /// The two seats of a new segment with this number and so many pages: its owner holds it, and its
@@ -76,43 +78,48 @@ pub fn make(alloc: Global, id: u64, pages: u32) -> Result<(OwnerSeat, WardenSeat
 }
 
 impl OwnerSeat {
-    /// Locks an idle segment by one exchange: the block with the bytes left, or none exactly where it
-    /// found the purged word.
-    pub fn lock(&mut self, last: u64) -> Option<Block>
+    /// Locks an idle segment by one exchange. It answers true and lays the block with the bytes left
+    /// into the hand, or answers false exactly where it found the purged word.
+    pub fn lock(&mut self, last: u64, hand: &mut Option<Block>) -> bool
         requires idle { self.old.phase ≡ Idle }
         requires last { last ≡ self.old.last }
+        requires free { hand.old ≡ None }
         ensures made { OwnerMakes kinds.Locks self.old self.new }
-        ensures told { MatchOption result (self.new ≡ owner_loses self.old)
-            (λ block. (block ≡ self.old.left) × (self.new ≡ owner_holds self.old)) }
-        ensures sized { IfSome result (λ block. length block ≡ PAGE * self.old.pages) }
+        ensures told { MatchBool result
+            ((hand.new ≡ Some self.old.left) × (self.new ≡ owner_holds self.old))
+            ((hand.new ≡ None) × (self.new ≡ owner_loses self.old)) }
+        ensures sized { length self.old.left ≡ PAGE * self.old.pages }
     {
-        take_up(&self.table.shared, &mut self.seat, last)
+        take_up(&self.table.shared, &mut self.seat, last, hand)
     }
 
-    /// Unlocks a held segment by one exchange, and lays its block down.
-    pub fn unlock(&mut self, stamp: u64, block: Block)
+    /// Unlocks a held segment by one exchange, and lays the block in the hand down.
+    pub fn unlock(&mut self, stamp: u64, hand: &mut Option<Block>)
         requires held { self.old.phase ≡ Held }
         requires stamp { IsMoment stamp × (self.old.last ≤ stamp) }
-        requires block { length block ≡ PAGE * self.old.pages }
-        ensures made { OwnerMakes (kinds.Unlocks stamp block) self.old self.new }
-        ensures told { self.new ≡ owner_rests stamp block self.old }
+        requires block { (b : List ℕ) × (hand.old ≡ Some b) × (length b ≡ PAGE * self.old.pages) }
+        ensures made { IfSome hand.old (λ b. OwnerMakes (kinds.Unlocks stamp b) self.old self.new) }
+        ensures told { IfSome hand.old (λ b. self.new ≡ owner_rests stamp b self.old) }
+        ensures empty { hand.new ≡ None }
     {
-        lay_down(&self.table.shared, &mut self.seat, stamp, block);
+        lay_down(&self.table.shared, &mut self.seat, stamp, hand);
     }
 
-    /// Looks at the word of an idle segment by one load: false exactly where it found the purged word.
+    /// Looks at the word of an idle segment by one load: false exactly where it found the purged
+    /// word.
     pub fn look(&mut self) -> bool
         requires { self.old.phase ≡ Idle }
         ensures made { OwnerMakes kinds.Looks self.old self.new }
-        ensures told { MatchBool result (self.new ≡ owner_stays self.old) (self.new ≡ owner_loses self.old) }
+        ensures told { MatchBool result
+            (self.new ≡ owner_stays self.old) (self.new ≡ owner_loses self.old) }
     {
         is_there(&self.table.shared, &mut self.seat)
     }
 }
 
 impl WardenSeat {
-    /// Tries to purge at a moment by one exchange, where it has not taken the block. It answers the word
-    /// that it found, and the block exactly where that is the word that it expected.
+    /// Tries to purge at a moment by one exchange, where it has not taken the block. It answers the
+    /// word that it found, and the block exactly where that is the word that it expected.
     pub fn try_purge(&mut self, expected: u64, now: u64) -> (u64, Option<Block>)
         requires free { self.old.taken ≡ false }
         requires expected { expected ≡ expected_word self.old.tries }

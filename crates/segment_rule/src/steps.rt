@@ -1,11 +1,11 @@
 //! The steps on a segment's word, each one exchange or one load, and what a side has after them.
-ghost use Rattle.std.specs.Prelude.{◌≡◌, ◌≢◌, ◌*◌, ◌<◌, ◌≤◌, ◌==◌, ℕ, List, true, false, [], ◌∷◌, Some, None, IfOk, MatchBool, MatchOption, length};
+ghost use Rattle.std.specs.Prelude.{◌≡◌, ◌≢◌, ◌*◌, ◌<◌, ◌≤◌, ◌==◌, ℕ, List, true, false, [], ◌∷◌, Some, None, IfOk, IfSome, MatchBool, MatchOption, length};
 ghost use Rattle.units.specs.declared.TheConstants.{PAGE};
 ghost use Rattle.units.specs.Moment.{IsMoment};
-ghost use Rattle.segment_rule.specs.Views.{fresh_owner, fresh_warden, settled, parted, owner_holds, owner_loses, owner_rests, owner_stays, warden_tries, expected_word, IsTimely};
+ghost use Rattle.segment_rule.specs.Views.{fresh_owner, settled, parted, owner_holds, owner_loses, owner_rests, owner_stays, warden_tries, expected_word, IsTimely};
 ghost use Rattle.segment_rule.specs.Rule.{Slot};
 ghost use Rattle.segment_rule.specs.Kinds as kinds;
-ghost use Rattle.segment_rule.specs.Seats.{owner_of, warden_of, Fits, OwnerMade, OwnerUnlocked, WardenMade, OwnerMakes, WardenMakes};
+ghost use Rattle.segment_rule.specs.Seats.{owner_of, warden_of, warden_view, Fits, IsOwnerAt, IsFreeWarden, OwnerMade, OwnerUnlocked, WardenMade, OwnerMakes, WardenMakes};
 ghost use Rattle.segment_rule.specs.declared.view.Stage.TheVariants.{New, Held, Idle, Gone};
 ghost use Rattle.segment_rule.specs.declared.view.View.TheVariants.{Owner, Warden};
 
@@ -16,7 +16,8 @@ use std::alloc::{AllocError, Global};
 
 /// A table of one word, that of a held segment, with nothing at home, and the owner's seat.
 pub fn open(alloc: Global, id: u64, pages: u32) -> Result<(Owned, Place), AllocError>
-    ensures { IfOk result (λ t. Fits t.1.table_id t.0.shared.table_id × (t.1.me ≡ (Owner (fresh_owner id pages), []))) }
+    ensures { IfOk result (λ t. Fits t.1.table_id t.0.shared.table_id
+        × (t.1.me ≡ (Owner (fresh_owner id pages), []))) }
 {
     Owned::vacant(alloc, &[1], 1, &(id, pages))
 }
@@ -24,7 +25,7 @@ pub fn open(alloc: Global, id: u64, pages: u32) -> Result<(Owned, Place), AllocE
 /// The owner takes the empty home.
 pub fn settle(shelf: &Shelf, seat: &mut Place)
     requires table { Fits seat.old.table_id shelf.now.table_id }
-    requires owner { (seat.old.me ≡ (Owner (owner_of seat.old.me.0), [])) × ((owner_of seat.old.me.0).phase ≡ New) }
+    requires owner { IsOwnerAt New seat.old.me }
     ensures table { seat.new.table_id ≡ seat.old.table_id }
     ensures held { seat.new.me ≡ (Owner (settled (owner_of seat.old.me.0)), (0, None) ∷ []) }
 {
@@ -34,10 +35,12 @@ pub fn settle(shelf: &Shelf, seat: &mut Place)
 /// The warden gets a seat.
 pub fn split(shelf: &Shelf, seat: &mut Place) -> Place
     requires table { Fits seat.old.table_id shelf.now.table_id }
-    requires owner { (seat.old.me.0 ≡ Owner (owner_of seat.old.me.0)) × ((owner_of seat.old.me.0).apart ≡ false) × ((owner_of seat.old.me.0).phase ≢ New) }
-    ensures table { (seat.new.table_id ≡ seat.old.table_id) × (result.table_id ≡ seat.old.table_id) }
+    requires owner { (seat.old.me.0 ≡ Owner (owner_of seat.old.me.0))
+        × ((owner_of seat.old.me.0).apart ≡ false) × ((owner_of seat.old.me.0).phase ≢ New) }
+    ensures table { (seat.new.table_id ≡ seat.old.table_id)
+        × (result.table_id ≡ seat.old.table_id) }
     ensures owner { seat.new.me ≡ (Owner (parted (owner_of seat.old.me.0)), seat.old.me.1) }
-    ensures warden { result.me ≡ (Warden (fresh_warden (owner_of seat.old.me.0).id (owner_of seat.old.me.0).pages), []) }
+    ensures warden { result.me ≡ (warden_view seat.old.me.0, []) }
 {
     shelf.split_seat::<Parts>(seat)
 }
@@ -45,7 +48,7 @@ pub fn split(shelf: &Shelf, seat: &mut Place) -> Place
 /// An idle owner locks. It answers the word that it found.
 fn lock(shelf: &Shelf, seat: &mut Place, last: u64) -> u64
     requires table { Fits seat.old.table_id shelf.now.table_id }
-    requires owner { (seat.old.me ≡ (Owner (owner_of seat.old.me.0), [])) × ((owner_of seat.old.me.0).phase ≡ Idle) }
+    requires owner { IsOwnerAt Idle seat.old.me }
     requires last { ((owner_of seat.old.me.0).last ≡ last) × IsMoment last }
     ensures table { seat.new.table_id ≡ seat.old.table_id }
     ensures made { OwnerMade kinds.Locks seat.old.me result seat.new.me }
@@ -56,8 +59,10 @@ fn lock(shelf: &Shelf, seat: &mut Place, last: u64) -> u64
 /// An owner that holds, with its block in its home, unlocks at a stamp.
 fn unlock(shelf: &Shelf, seat: &mut Place, stamp: u64) -> u64
     requires table { Fits seat.old.table_id shelf.now.table_id }
-    requires owner { (seat.old.me.0 ≡ Owner (owner_of seat.old.me.0)) × ((owner_of seat.old.me.0).phase ≡ Held) }
-    requires block { (b : List ℕ) × (seat.old.me.1 ≡ (0, Some b) ∷ []) × (length b ≡ PAGE * (owner_of seat.old.me.0).pages) }
+    requires owner { (seat.old.me.0 ≡ Owner (owner_of seat.old.me.0))
+        × ((owner_of seat.old.me.0).phase ≡ Held) }
+    requires block { (b : List ℕ) × (seat.old.me.1 ≡ (0, Some b) ∷ [])
+        × (length b ≡ PAGE * (owner_of seat.old.me.0).pages) }
     requires stamp { IsMoment stamp × ((owner_of seat.old.me.0).last ≤ stamp) }
     ensures table { seat.new.table_id ≡ seat.old.table_id }
     ensures made { OwnerUnlocked stamp seat.old.me result seat.new.me }
@@ -68,17 +73,18 @@ fn unlock(shelf: &Shelf, seat: &mut Place, stamp: u64) -> u64
 /// An idle owner looks. It answers the word that it found.
 fn look(shelf: &Shelf, seat: &mut Place) -> u64
     requires table { Fits seat.old.table_id shelf.now.table_id }
-    requires owner { (seat.old.me ≡ (Owner (owner_of seat.old.me.0), [])) × ((owner_of seat.old.me.0).phase ≡ Idle) }
+    requires owner { IsOwnerAt Idle seat.old.me }
     ensures table { seat.new.table_id ≡ seat.old.table_id }
     ensures made { OwnerMade kinds.Looks seat.old.me result seat.new.me }
 {
     shelf.load::<Looks>(seat, 0)
 }
 
-/// A warden that has not taken the block tries to purge at a moment. It answers the word that it found.
+/// A warden that has not taken the block tries to purge at a moment. It answers the word that it
+/// found.
 fn try_at<M: Moment>(shelf: &Shelf, seat: &mut Place, expected: u64) -> u64
     requires table { Fits seat.old.table_id shelf.now.table_id }
-    requires warden { (seat.old.me ≡ (Warden (warden_of seat.old.me.0), [])) × ((warden_of seat.old.me.0).taken ≡ false) }
+    requires warden { IsFreeWarden seat.old.me }
     requires expected { expected ≡ expected_word (warden_of seat.old.me.0).tries }
     requires moment { IsMoment M.now }
     ensures table { seat.new.table_id ≡ seat.old.table_id }
@@ -87,42 +93,50 @@ fn try_at<M: Moment>(shelf: &Shelf, seat: &mut Place, expected: u64) -> u64
     shelf.compare_exchange::<Tries<M>>(seat, 0, expected, purged())
 }
 
-/// An idle owner locks. It has the block, or it found the purged word.
-pub fn take_up(shelf: &Shelf, seat: &mut Place, last: u64) -> Option<Block>
+/// An idle owner locks. It answers true and has the block in its hand, or it found the purged word.
+pub fn take_up(shelf: &Shelf, seat: &mut Place, last: u64, hand: &mut Option<Block>) -> bool
     requires table { Fits seat.old.table_id shelf.now.table_id }
-    requires owner { (seat.old.me ≡ (Owner (owner_of seat.old.me.0), [])) × ((owner_of seat.old.me.0).phase ≡ Idle) }
+    requires owner { IsOwnerAt Idle seat.old.me }
     requires last { ((owner_of seat.old.me.0).last ≡ last) × IsMoment last }
+    requires free { hand.old ≡ None }
     ensures table { seat.new.table_id ≡ seat.old.table_id }
     ensures made { OwnerMakes kinds.Locks (owner_of seat.old.me.0) (owner_of seat.new.me.0) }
-    ensures told { MatchOption result
-        (seat.new.me ≡ (Owner (owner_loses (owner_of seat.old.me.0)), []))
-        (λ b. (b ≡ (owner_of seat.old.me.0).left) × (seat.new.me ≡ (Owner (owner_holds (owner_of seat.old.me.0)), (0, None) ∷ []))) }
+    ensures told { MatchBool result
+        ((hand.new ≡ Some (owner_of seat.old.me.0).left)
+        × (seat.new.me ≡ (Owner (owner_holds (owner_of seat.old.me.0)), (0, None) ∷ [])))
+        ((hand.new ≡ None) × (seat.new.me ≡ (Owner (owner_loses (owner_of seat.old.me.0)), []))) }
 {
     if lock(shelf, seat, last) == purged() {
-        None
-    } else {
-        shelf.exchange(seat, 0, None)
+        return false;
     }
+    *hand = shelf.exchange(seat, 0, None);
+    true
 }
 
-/// An owner that holds lays its block down at a stamp.
-pub fn lay_down(shelf: &Shelf, seat: &mut Place, stamp: u64, block: Block)
+/// An owner that holds lays the block in its hand down at a stamp.
+pub fn lay_down(shelf: &Shelf, seat: &mut Place, stamp: u64, hand: &mut Option<Block>)
     requires table { Fits seat.old.table_id shelf.now.table_id }
-    requires owner { (seat.old.me ≡ (Owner (owner_of seat.old.me.0), (0, None) ∷ [])) × ((owner_of seat.old.me.0).phase ≡ Held) }
-    requires block { length block ≡ PAGE * (owner_of seat.old.me.0).pages }
+    requires owner { IsOwnerAt Held seat.old.me }
+    requires block { (b : List ℕ) × (hand.old ≡ Some b)
+        × (length b ≡ PAGE * (owner_of seat.old.me.0).pages) }
     requires stamp { IsMoment stamp × ((owner_of seat.old.me.0).last ≤ stamp) }
     ensures table { seat.new.table_id ≡ seat.old.table_id }
-    ensures made { OwnerMakes (kinds.Unlocks stamp block) (owner_of seat.old.me.0) (owner_of seat.new.me.0) }
-    ensures idle { seat.new.me ≡ (Owner (owner_rests stamp block (owner_of seat.old.me.0)), []) }
+    ensures made { IfSome hand.old (λ b.
+        OwnerMakes (kinds.Unlocks stamp b) (owner_of seat.old.me.0) (owner_of seat.new.me.0)) }
+    ensures idle { IfSome hand.old (λ b.
+        seat.new.me ≡ (Owner (owner_rests stamp b (owner_of seat.old.me.0)), [])) }
+    ensures empty { hand.new ≡ None }
 {
-    shelf.exchange(seat, 0, Some(block));
+    let None = shelf.exchange(seat, 0, hand.take()) else {
+        unreachable!()
+    };
     unlock(shelf, seat, stamp);
 }
 
 /// An idle owner looks. It answers false where it found the purged word.
 pub fn is_there(shelf: &Shelf, seat: &mut Place) -> bool
     requires table { Fits seat.old.table_id shelf.now.table_id }
-    requires owner { (seat.old.me ≡ (Owner (owner_of seat.old.me.0), [])) × ((owner_of seat.old.me.0).phase ≡ Idle) }
+    requires owner { IsOwnerAt Idle seat.old.me }
     ensures table { seat.new.table_id ≡ seat.old.table_id }
     ensures made { OwnerMakes kinds.Looks (owner_of seat.old.me.0) (owner_of seat.new.me.0) }
     ensures told { MatchBool result
@@ -140,16 +154,23 @@ pub fn take_away<M: Moment>(
     now: u64,
 ) -> (u64, Option<Block>)
     requires table { Fits seat.old.table_id shelf.now.table_id }
-    requires warden { (seat.old.me ≡ (Warden (warden_of seat.old.me.0), [])) × ((warden_of seat.old.me.0).taken ≡ false) }
+    requires warden { IsFreeWarden seat.old.me }
     requires expected { expected ≡ expected_word (warden_of seat.old.me.0).tries }
     requires moment { IsMoment now × (now ≡ M.now) }
     ensures table { seat.new.table_id ≡ seat.old.table_id }
-    ensures made { WardenMakes (kinds.Tries now) (warden_of seat.old.me.0) (warden_of seat.new.me.0) }
+    ensures made { WardenMakes (kinds.Tries now)
+        (warden_of seat.old.me.0) (warden_of seat.new.me.0) }
     ensures timely { IsTimely result.0 (warden_of seat.old.me.0).tries }
     ensures told { MatchOption result.1
-        ((result.0 ≢ expected) × (seat.new.me ≡ (Warden (warden_tries now result.0 false (warden_of seat.old.me.0)), [])))
+        ((result.0 ≢ expected)
+        × (seat.new.me
+        ≡ (Warden (warden_tries now result.0 false (warden_of seat.old.me.0)), [])))
         (λ b. (result.0 ≡ expected) × (length b ≡ PAGE * (warden_of seat.old.me.0).pages)
-        × (seat.new.me ≡ (Warden (warden_tries now result.0 true (warden_of seat.old.me.0)), (0, None) ∷ []))) }
+        × (seat.new.me
+        ≡ (
+          Warden (warden_tries now result.0 true (warden_of seat.old.me.0)),
+          (0, None) ∷ [],
+        ))) }
 {
     let found = try_at::<M>(shelf, seat, expected);
     if found == expected {

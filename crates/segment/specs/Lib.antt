@@ -1,0 +1,4 @@
+pub mod Owned
+pub mod Warded
+pub mod Ends
+pub mod Lending
