@@ -10,3 +10,5 @@ pub mod ByClass
 pub mod PlacedRunsKeepTheirPlaces
 pub mod TableTellsEachRun
 pub mod SegmentsJoinTheTable
+pub mod HeapOverTheTable
+pub mod SegmentsLeaveTheTable

@@ -5,7 +5,7 @@ use Rattle.std.proofs.lemmas.List.Elements.{filter-append, All-head, All-tail, A
 use Rattle.std.proofs.lemmas.List.{append-nil, get_or_default}
 use Rattle.std.proofs.lemmas.List.Sums.{sum_by-cons, sum_by_push}
 use Rattle.std.proofs.lemmas.Bool.{cases_eq, cases_lt, eq-eqb, ne_eqb, false_from_ne_true}
-use Rattle.free_lists.specs.Lists.{Classes, list_of, IsListed, class_of_run, without, Appends, Removes}
+use Rattle.free_lists.specs.Lists.{Classes, list_of, IsListed, class_of_run, without, Appends, Removes, AreNew}
 use Rattle.span_heap.specs.declared.run.Run.{Run}
 use Rattle.span_heap.specs.Run.{is_run}
 use Rattle.span_heap.specs.Placed.{run_at, IsByClass, IsDistinct, IsPlaced}
@@ -326,3 +326,18 @@ pub blank_pads : (runs runs' : List Run) (n : ℕ) → length runs ≤ n → run
     → (place : ℕ) → run_at runs' place ≡ run_at runs place
 blank_pads runs runs' n reach is place =
     ap (λ xs. run_at xs place) (is ∙ ap (λ xs. xs ++ replicate (n - length runs) (record { segment = 0; first = 0; pages = 0 })) (take_whole n runs reach)) ∙ blank_read runs (n - length runs) place
+
+-- no place at all
+pub IsPlaced-new : (lists order : Classes) → AreNew lists → AreNew order → IsPlaced lists order [] 0 0
+IsPlaced-new lists order new new' =
+    record {
+      lists_places = new.places;
+      order_places = new'.places;
+      lists_reach = omega arith;
+      order_reach = omega arith;
+      by_class = λ c. new.lists c ∙ ap (filter (λ place. eqb (min (run_at [] place).pages 256) c)) (sym (new'.lists 1));
+      two_lists = λ c one two. new'.lists c;
+      free_within = subst (All (λ p. p < length {A = Run} [])) (sym (new'.lists 1)) (All-nil (λ p. p < length {A = Run} []));
+      used_within = subst (All (λ p. p < length {A = Run} [])) (sym (new'.lists 2)) (All-nil (λ p. p < length {A = Run} []));
+      once = λ p. rw (new'.lists 1, new'.lists 2) (omega arith);
+    }

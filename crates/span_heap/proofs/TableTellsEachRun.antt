@@ -73,7 +73,7 @@ pub record IsFound (rows : List Row) (runs : List Run) (places : List ℕ) (run 
   pub sized : 1 ≤ run.pages
   pub fits : run.first + run.pages ≤ width_at rows at
 
-looked_up : (rows : List Row) (runs : List Run) (places : List ℕ) (run : Run) → All (λ p. HasKey rows (run_at runs p) p) places → Contains (map (run_at runs) places) run
+pub looked_up : (rows : List Row) (runs : List Run) (places : List ℕ) (run : Run) → All (λ p. HasKey rows (run_at runs p) p) places → Contains (map (run_at runs) places) run
     → (place : ℕ) × Contains places place × (run_at runs place ≡ run) × HasKey rows run place
 looked_up rows runs places run keys (k, within, is) =
     let inside : k < length places = omega (arith, within, length-map places (run_at runs)) in

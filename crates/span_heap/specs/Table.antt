@@ -1,10 +1,10 @@
 -- The table of a heap's pages: each page has a place, and the place tells which run begins or ends there.
-use Rattle.std.specs.Prelude.{◌≡◌, ◌≢◌, ℕ, ◌+◌, ◌^◌, ◌<◌, ◌≤◌, Bool, ◌==◌, List, [], ◌++◌, drop, length, slice_index_or, map, All, Contains, filter, count_by}
+use Rattle.std.specs.Prelude.{◌≡◌, ◌≢◌, ℕ, ◌+◌, ◌^◌, ◌<◌, ◌≤◌, Bool, IsTrue, IsFalse, ◌==◌, List, [], ◌++◌, drop, length, slice_index_or, map, All, Contains, Option, MatchOption, filter, count_by}
 use Rattle.std.specs.List.{range_with_len}
 use Rattle.span_heap.specs.declared.run.Run.{Run}
 use Rattle.span_heap.specs.Run.{lies_in, begins_at, ends_at, pages_of}
 use Rattle.span_heap.specs.Segment.{Segment}
-use Rattle.span_heap.specs.Heap.{size_of}
+use Rattle.span_heap.specs.Heap.{Contents, LiesWithin, size_of}
 use Rattle.span_heap.specs.Placed.{Placed, run_at, free_of, used_of, IsDistinct}
 
 -- a segment in the table: its number, and the place of each of its pages
@@ -102,3 +102,29 @@ pub record HoldsRuns (rows : List Row) (placed : Placed) (free_from free_to used
 -- the places of a new segment: the spare ones from `keep` on, and new ones from `size` on
 abbrev pub row_places : List ℕ → ℕ → ℕ → ℕ → List ℕ
 row_places spare keep size fresh = drop keep spare ++ range_with_len size fresh
+
+-- one page of a segment
+abbrev pub page_of : ℕ → ℕ → Run
+page_of id page = record { segment = id; first = page; pages = 1 }
+
+-- the one run that begins at this page of the segment, or none where none does
+abbrev pub IsRunAt : List Run → ℕ → ℕ → Option Run → Type 0
+IsRunAt runs id page found =
+    MatchOption found (All (λ other. IsFalse (begins_at id page other)) runs)
+    (λ run. Contains runs run × IsTrue (begins_at id page run) × (count_by (begins_at id page) runs ≤ 1))
+
+-- no run of this segment begins before this page
+abbrev pub BeginFrom : ℕ → ℕ → List Run → Type 0
+BeginFrom id page runs = All (λ run. run.segment ≡ id → page ≤ run.first) runs
+
+-- no run of this segment begins within it
+abbrev pub IsEmptied : Contents → ℕ → Type 0
+IsEmptied heap id =
+    (pages : ℕ) × Contains heap.segments (record { id = id; pages = pages }) × BeginFrom id pages heap.free × BeginFrom id pages heap.used
+
+-- the run lies within a segment, no run begins where it begins, and it does not make the free pages too many
+pub record CanCome (heap : Contents) (run : Run) : Type 0 where
+  pub lies : LiesWithin heap.segments run
+  pub not_free : All (λ other. IsFalse (begins_at run.segment run.first other)) heap.free
+  pub not_used : All (λ other. IsFalse (begins_at run.segment run.first other)) heap.used
+  pub small : pages_of heap.free + run.pages < 2 ^ 32

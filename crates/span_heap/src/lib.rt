@@ -3,16 +3,12 @@
 //! runs, looks for a free run by its length, and joins what is freed with what lies beside it.
 
 mod by_class;
-mod free_runs;
 mod heap;
 mod placed;
 mod row;
 mod run;
-mod run_list;
-mod segment;
 mod span;
 mod table;
-mod used_spans;
 
 pub use heap::Heap;
 pub use run::{Run, Runs};

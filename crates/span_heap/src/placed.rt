@@ -1,7 +1,7 @@
 //! The free runs and used spans of a heap, each kept under a place.
-ghost use Rattle.std.specs.Prelude.{◌≡◌, ℕ, ◌+◌, ◌-◌, ◌^◌, ◌<◌, ◌≤◌, ◌++◌, ◌∷◌, [], Contains, OnOk, OnErr, length, set};
+ghost use Rattle.std.specs.Prelude.{◌≡◌, ℕ, ◌+◌, ◌-◌, ◌^◌, ◌<◌, ◌≤◌, ◌++◌, ◌∷◌, [], All, Contains, IfOk, OnOk, OnErr, length, map, reverse, set};
 ghost use Rattle.free_lists.specs.Lists.{list_of, without};
-ghost use Rattle.span_heap.specs.Placed.{IsPickOf, run_at};
+ghost use Rattle.span_heap.specs.Placed.{IsPickOf, IsDistinct, free_of, run_at};
 
 use crate::by_class::pick_place;
 use crate::run::Run;
@@ -41,6 +41,19 @@ impl Model for PlacedRuns {
 }
 
 impl PlacedRuns {
+    /// No place and no run. The one error is being out of memory.
+    pub(crate) fn new(alloc: Global) -> Result<PlacedRuns, NoMemory>
+        ensures { IfOk result (λ placed. placed ≡ record { free = []; used = []; runs = [] }) }
+    {
+        Ok(PlacedRuns {
+            lists: Lists::new(alloc)?,
+            listed: 0,
+            order: Lists::new(alloc)?,
+            ordered: 0,
+            runs: Vec::new(alloc),
+        })
+    }
+
     /// How many places there are.
     pub(crate) fn len(&self) -> usize
         ensures { result ≡ length self.now.runs }
@@ -122,6 +135,30 @@ impl PlacedRuns {
         let place = pick_place(&self.lists, self.runs.as_slice(), pages, most)?;
         Some(self.runs[place as usize])
     }
+
+    /// The free runs, the oldest first.
+    pub(crate) fn list(&self, alloc: Global) -> Result<Vec<Run>, NoMemory>
+        ensures { IfOk result (λ runs. runs.items ≡ free_of self.now) }
+    {
+        let mut runs = latest_first(alloc, &self.order, self.runs.as_slice())?;
+        runs.reverse();
+        Ok(runs)
+    }
+}
+
+/// The free runs, the latest first.
+fn latest_first(alloc: Global, order: &Lists, runs: &[Run]) -> Result<Vec<Run>, NoMemory>
+    requires within { All (λ place. place < length runs.now) (list_of order.now 1) }
+    requires distinct { IsDistinct (list_of order.now 1) }
+    ensures { IfOk result (λ found. found.items ≡ reverse (map (run_at runs.now) (list_of order.now 1))) }
+{
+    let mut found = Vec::new(alloc);
+    let mut at = order.tail(FREE);
+    while let Some(place) = at {
+        found.push(runs[place as usize])?;
+        at = order.before(place);
+    }
+    Ok(found)
 }
 
 /// Adds the places that the lists miss of `total`.

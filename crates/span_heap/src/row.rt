@@ -1,5 +1,5 @@
 //! A segment in the table of pages.
-ghost use Rattle.std.specs.Prelude.{◌≡◌, ◌+◌, ◌^◌, ◌<◌, ◌≤◌, length, position, slice_index_or, IsTrue, IfOk, OnOk};
+ghost use Rattle.std.specs.Prelude.{◌≡◌, ◌+◌, ◌++◌, ◌^◌, ◌<◌, ◌≤◌, vec_len, vec_capacity, length, position, slice_index_or, IsTrue, IfOk, OnOk};
 ghost use Rattle.std.specs.List.{list_any};
 ghost use Rattle.span_heap.specs.Table.{is_row, RowStands, Widens, row_places};
 
@@ -49,6 +49,17 @@ impl PageRow {
         ensures { result ≡ slice_index_or self.now.places page 0 }
     {
         self.places[page as usize]
+    }
+
+    /// Gives the places of its pages to those that no page has.
+    pub(crate) fn give_places(self, spare: &mut Vec<u32>)
+        requires { vec_len spare.old + length self.places ≤ vec_capacity spare.old }
+        ensures items { spare.new.items ≡ spare.old.items ++ self.places }
+        ensures capacity { vec_capacity spare.new ≡ vec_capacity spare.old }
+    {
+        for place in self.places.as_slice() {
+            spare.push_reserved(*place);
+        }
     }
 }
 

@@ -1,4 +1,4 @@
-ghost use Rattle.std.specs.Prelude.{◌≡◌, ℕ, ◌+◌, ◌-◌, ◌^◌, ◌<◌, ◌≤◌, List, length, slice_get};
+ghost use Rattle.std.specs.Prelude.{◌≡◌, ℕ, ◌+◌, ◌-◌, ◌^◌, ◌<◌, ◌≤◌, List, MatchOption, length, slice_get};
 ghost use Rattle.span_heap.specs.Pick.{fits};
 ghost use Rattle.span_heap.specs.Runs.{front_of, back_of};
 ghost use Rattle.span_heap.specs.Run.{begins_at, ends_at, is_beside};
@@ -29,6 +29,20 @@ impl Run {
         ensures { result ≡ self.now.first + self.now.pages }
     {
         u64::from(self.first) + u64::from(self.pages)
+    }
+
+    /// The run of so many pages from a page on, where there are any.
+    pub(crate) fn marked(segment: u64, first: u32, pages: u32) -> Option<Run>
+        ensures { MatchOption result (pages ≡ 0) (λ run. (1 ≤ pages) × (run ≡ record { segment = segment; first = first; pages = pages })) }
+    {
+        if pages == 0 {
+            return None;
+        }
+        Some(Run {
+            segment,
+            first,
+            pages,
+        })
     }
 
     /// Its first `pages` pages.

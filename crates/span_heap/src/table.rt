@@ -1,11 +1,12 @@
 //! The table of pages: which run begins or ends at each page of each segment.
-ghost use Rattle.std.specs.Prelude.{◌≡◌, ◌+◌, ◌-◌, ◌^◌, ◌<◌, ◌≤◌, ◌↔◌, not, [], ◌∷◌, ◌++◌, All, Contains, IsFalse, IsTrue, IsPermutation, OnOk, OnErr, filter};
-ghost use Rattle.span_heap.specs.Run.{is_run, begins_at, pages_of};
-ghost use Rattle.span_heap.specs.Runs.{pages_before, pages_behind};
+ghost use Rattle.std.specs.Prelude.{◌≡◌, ◌+◌, ◌-◌, ◌^◌, ◌<◌, ◌≤◌, ◌↔◌, not, [], ◌∷◌, ◌++◌, All, Contains, IsFalse, IsTrue, IsPermutation, OnOk, OnErr, IfOk, filter, count_by};
+ghost use Rattle.span_heap.specs.Run.{is_run, begins_at, ends_at, pages_of};
+ghost use Rattle.span_heap.specs.Runs.{pages_before, pages_behind, back_of, rest_of, dropped};
 ghost use Rattle.span_heap.specs.Pick.{pick};
 ghost use Rattle.span_heap.specs.Segment.{pages_in};
-ghost use Rattle.span_heap.specs.Heap.{LiesWithin, has_segment, size_of};
+ghost use Rattle.span_heap.specs.Heap.{contents, LiesWithin, has_id, has_segment, size_of};
 ghost use Rattle.span_heap.specs.Changes.{NoneIn, segment_of};
+ghost use Rattle.span_heap.specs.Table.{page_of, IsRunAt, BeginFrom, IsEmptied, CanCome};
 
 use crate::placed::PlacedRuns;
 use crate::row::{PageRow, first_row, has_row, new_places, row_of, widen_all};
@@ -33,7 +34,7 @@ pub(crate) struct PageTable {
 }
 
 impl Model for PageTable {
-    ghost use Rattle.std.specs.Prelude.{length, map};
+    ghost use Rattle.std.specs.Prelude.{◌≤◌, length, map, vec_capacity};
     ghost use Rattle.span_heap.specs.Placed.{free_of, used_of};
     ghost use Rattle.span_heap.specs.Table.{shown_row, ArePlaces, HoldsRuns};
     ghost use Rattle.span_heap.specs.Heap.{Contents, contents};
@@ -43,10 +44,26 @@ impl Model for PageTable {
     ghost view = { λ t. contents (map shown_row t.rows.items) (used_of t.runs) (free_of t.runs) };
 
     ghost invariant = { λ t. ArePlaces t.rows.items t.spare.items (length t.runs.runs)
-        × HoldsRuns t.rows.items t.runs t.free_from.items t.free_to.items t.used_from.items t.counts.items };
+        × HoldsRuns t.rows.items t.runs t.free_from.items t.free_to.items t.used_from.items t.counts.items
+        × (length t.runs.runs ≤ vec_capacity t.spare) };
 }
 
 impl PageTable {
+    /// A table with no segment. The one error is being out of memory.
+    pub(crate) fn new(alloc: Global) -> Result<PageTable, NoMemory>
+        ensures { IfOk result (λ table. table ≡ contents [] [] []) }
+    {
+        Ok(PageTable {
+            rows: Vec::new(alloc),
+            counts: Vec::new(alloc),
+            runs: PlacedRuns::new(alloc)?,
+            free_from: Vec::new(alloc),
+            free_to: Vec::new(alloc),
+            used_from: Vec::new(alloc),
+            spare: Vec::new(alloc),
+        })
+    }
+
     /// Adds a segment that has no run. `NoMemory` leaves the table as before.
     pub(crate) fn grow(&mut self, alloc: Global, id: u64, pages: u32) -> Result<(), NoMemory>
         requires fresh { IsFalse (has_segment self.old.segments id) }
@@ -64,6 +81,8 @@ impl PageTable {
         let places = new_places(alloc, self.spare.as_slice(), keep, size, fresh)?;
         self.rows.reserve(1)?;
         self.counts.reserve(1)?;
+        self.spare
+            .reserve((size + fresh) as usize - self.spare.len())?;
         widen_all(
             &mut self.free_from,
             &mut self.free_to,
@@ -75,6 +94,90 @@ impl PageTable {
         self.rows.push_reserved(PageRow::new(id, places));
         self.counts.push_reserved(0);
         Ok(())
+    }
+
+    /// How many pages a segment has.
+    pub(crate) fn width(&self, id: u64) -> u32
+        requires { IsTrue (has_segment self.now.segments id) }
+        ensures { Contains self.now.segments (segment_of id result) }
+    {
+        let at = row_of(self.rows.as_slice(), id);
+        self.rows[at].len() as u32
+    }
+
+    /// Drops a segment with its free runs and its used spans, page by page.
+    pub(crate) fn drop_row(&mut self, id: u64)
+        requires { IsTrue (has_segment self.old.segments id) }
+        ensures segments { self.new.segments ≡ filter (λ s. not (has_id id s)) self.old.segments }
+        ensures free { self.new.free ≡ dropped self.old.free id }
+        ensures used { self.new.used ≡ dropped self.old.used id }
+    {
+        for page in 0..self.width(id) {
+            self.clear_free(id, page);
+            self.clear_used(id, page);
+        }
+        self.remove_row(id);
+    }
+
+    /// Takes out the free run that begins at a page, where no run of the segment begins before it.
+    fn clear_free(&mut self, id: u64, page: u32)
+        requires within { LiesWithin self.old.segments (page_of id page) }
+        requires from { BeginFrom id page self.old.free }
+        ensures from { BeginFrom id (page + 1) self.new.free }
+        ensures others { dropped self.new.free id ≡ dropped self.old.free id }
+        ensures used { self.new.used ≡ self.old.used }
+        ensures segments { self.new.segments ≡ self.old.segments }
+    {
+        if let Some(run) = self.free_at(id, page) {
+            self.take_free(run);
+        }
+    }
+
+    /// Takes out the used span that begins at a page, where none of the segment begins before it.
+    fn clear_used(&mut self, id: u64, page: u32)
+        requires within { LiesWithin self.old.segments (page_of id page) }
+        requires from { BeginFrom id page self.old.used }
+        ensures from { BeginFrom id (page + 1) self.new.used }
+        ensures others { dropped self.new.used id ≡ dropped self.old.used id }
+        ensures free { self.new.free ≡ self.old.free }
+        ensures segments { self.new.segments ≡ self.old.segments }
+    {
+        if let Some(span) = self.used_at(id, page) {
+            self.take_used(span);
+        }
+    }
+
+    /// The free run that begins at a page of a segment, if there is one.
+    fn free_at(&self, id: u64, page: u32) -> Option<Run>
+        requires { LiesWithin self.now.segments (page_of id page) }
+        ensures { IsRunAt self.now.free id page result }
+    {
+        let at = row_of(self.rows.as_slice(), id);
+        let place = self.rows[at].place(page);
+        Run::marked(id, page, self.free_from[place as usize])
+    }
+
+    /// The used span that begins at a page of a segment, if there is one.
+    fn used_at(&self, id: u64, page: u32) -> Option<Run>
+        requires { LiesWithin self.now.segments (page_of id page) }
+        ensures { IsRunAt self.now.used id page result }
+    {
+        let at = row_of(self.rows.as_slice(), id);
+        let place = self.rows[at].place(page);
+        Run::marked(id, page, self.used_from[place as usize])
+    }
+
+    /// Removes a segment that has no run. Its places serve the next segments.
+    fn remove_row(&mut self, id: u64)
+        requires { IsEmptied self.old id }
+        ensures segments { self.new.segments ≡ filter (λ s. not (has_id id s)) self.old.segments }
+        ensures free { self.new.free ≡ dropped self.old.free id }
+        ensures used { self.new.used ≡ dropped self.old.used id }
+    {
+        let at = row_of(self.rows.as_slice(), id);
+        let row = self.rows.remove(at);
+        self.counts.remove(at);
+        row.give_places(&mut self.spare);
     }
 
     /// Takes out a free run.
@@ -115,6 +218,7 @@ impl PageTable {
         requires { Contains self.old.used span }
         ensures free { self.new.free ≡ self.old.free }
         ensures used { IsPermutation self.old.used (span ∷ self.new.used) }
+        ensures others { self.new.used ≡ filter (λ other. not (is_run span other)) self.old.used }
         ensures segments { self.new.segments ≡ self.old.segments }
     {
         let at = row_of(self.rows.as_slice(), span.segment);
@@ -139,6 +243,69 @@ impl PageTable {
         self.runs.add_used(first, span);
         self.used_from[first as usize] += span.pages;
         self.counts[at] += span.pages;
+    }
+
+    /// Adds what a run has behind its first `pages` pages, if anything, as the latest free run.
+    pub(crate) fn add_rest(&mut self, run: Run, pages: u32)
+        requires come { pages < run.pages → CanCome self.old (back_of run pages) }
+        requires end { run.first + run.pages < 2 ^ 32 }
+        ensures free { self.new.free ≡ self.old.free ++ rest_of run pages }
+        ensures used { self.new.used ≡ self.old.used }
+        ensures segments { self.new.segments ≡ self.old.segments }
+    {
+        if pages < run.pages {
+            self.add_free(run.back(pages));
+        }
+    }
+
+    /// Takes out the free run that ends where this span begins, and answers its pages, or 0.
+    pub(crate) fn take_before(&mut self, span: &Run) -> u32
+        requires lies { LiesWithin self.old.segments span.now }
+        requires one { count_by (ends_at span.now.segment span.now.first) self.old.free ≤ 1 }
+        requires sized { All (λ run. 1 ≤ run.pages) self.old.free }
+        ensures pages { result ≡ pages_before self.old.free span.now }
+        ensures free { self.new.free ≡ filter (λ r. not (ends_at span.now.segment span.now.first r)) self.old.free }
+        ensures used { self.new.used ≡ self.old.used }
+        ensures segments { self.new.segments ≡ self.old.segments }
+    {
+        let pages = self.pages_before(span);
+        if pages > 0 {
+            self.take_free(Run {
+                segment: span.segment,
+                first: span.first - pages,
+                pages,
+            });
+        }
+        pages
+    }
+
+    /// Takes out the free run that begins where this span ends, and answers its pages, or 0.
+    pub(crate) fn take_behind(&mut self, span: &Run) -> u32
+        requires lies { LiesWithin self.old.segments span.now }
+        requires one { count_by (begins_at span.now.segment (span.now.first + span.now.pages)) self.old.free ≤ 1 }
+        requires sized { All (λ run. 1 ≤ run.pages) self.old.free }
+        requires end { span.now.first + span.now.pages < 2 ^ 32 }
+        ensures pages { result ≡ pages_behind self.old.free span.now }
+        ensures free { self.new.free ≡ filter (λ r. not (begins_at span.now.segment (span.now.first + span.now.pages) r)) self.old.free }
+        ensures used { self.new.used ≡ self.old.used }
+        ensures segments { self.new.segments ≡ self.old.segments }
+    {
+        let pages = self.pages_behind(span);
+        if pages > 0 {
+            self.take_free(Run {
+                segment: span.segment,
+                first: span.first + span.pages,
+                pages,
+            });
+        }
+        pages
+    }
+
+    /// The free runs, the oldest first.
+    pub(crate) fn list(&self, alloc: Global) -> Result<Vec<Run>, NoMemory>
+        ensures { IfOk result (λ runs. runs.items ≡ self.now.free) }
+    {
+        self.runs.list(alloc)
     }
 
     /// How many pages the free run has that ends where this span begins, or 0 where there is none.

@@ -157,6 +157,7 @@ invariant_of-self c =
           (λ there. new_place rows t.runs.runs t.runs.free c.args.run at places.apart holds.free_keys (rw (← c.self.view_is) at c.requires.not_free) stands wide there)
           (λ there. new_place rows t.runs.runs t.runs.used c.args.run at places.apart holds.used_keys (rw (← c.self.view_is) at c.requires.not_used) stands wide there)
           (rw first at c.add_free.ensures.free) c.add_free.ensures.used (rw first at c.add_free.ensures.runs) (ap (λ x. x + c.args.run.pages) (rw first at mark)) (ap (λ x. x + c.args.run.pages) (rw last at mark_2))),
+      rw (c.add_free.ensures.runs, length-set t.runs.runs c.place-first.result c.args.run) c.self.invariant.2,
     )
 
 pub returns-clause-free : goal.returns-clause-free

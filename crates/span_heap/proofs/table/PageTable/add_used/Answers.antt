@@ -125,6 +125,7 @@ invariant_of-self c =
           (λ there. new_place rows t.runs.runs t.runs.free c.args.span at places.apart holds.free_keys (rw (← c.self.view_is) at c.requires.not_free) stands wide there)
           (λ there. new_place rows t.runs.runs t.runs.used c.args.span at places.apart holds.used_keys (rw (← c.self.view_is) at c.requires.not_used) stands wide there)
           c.add_used.ensures.free (rw first at c.add_used.ensures.used) (rw first at c.add_used.ensures.runs) (ap (λ x. x + c.args.span.pages) (rw first at mark)) (ap (λ x. x + c.args.span.pages) mark_2)),
+      rw (c.add_used.ensures.runs, length-set t.runs.runs c.place-first.result c.args.span) c.self.invariant.2,
     )
 
 pub returns-clause-free : goal.returns-clause-free

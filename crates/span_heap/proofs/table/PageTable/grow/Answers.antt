@@ -11,10 +11,11 @@ invariant_of-self-in_err-widen_all c =
     let places = c.self.invariant.0 in
     let holds = c.self.invariant.1 in
     let w = c.widen_all in (
-      rw c.reserve.ensures.items places,
+      rw (c.reserve.ensures.items, c.reserve-3.ensures.items) places,
       rw (c.reserve.ensures.items, c.reserve-2.ensures.items)
           (HoldsRuns-widened rows t.runs t.runs t.free_from.items t.free_to.items t.used_from.items w.new.one.items w.new.two.items w.new.three.items t.counts.items holds
           refl refl (λ place. refl) refl w.ensures.one w.ensures.two w.ensures.three),
+      omega (arith, c.self.invariant.2, c.reserve-3.ensures.capacity),
     )
 
 pub invariant_of-self-in_err-extend : goal.invariant_of-self-in_err-extend
@@ -24,10 +25,11 @@ invariant_of-self-in_err-extend c =
     let places = c.self.invariant.0 in
     let holds = c.self.invariant.1 in
     let w = c.widen_all in (
-      rw (c.reserve.ensures.items, c.in_err-extend.ensures.same) places,
+      rw (c.reserve.ensures.items, c.reserve-3.ensures.items, c.in_err-extend.ensures.same) places,
       rw (c.reserve.ensures.items, c.reserve-2.ensures.items)
           (HoldsRuns-widened rows t.runs c.extend.new.self t.free_from.items t.free_to.items t.used_from.items w.new.one.items w.new.two.items w.new.three.items t.counts.items holds
           c.extend.ensures.free c.extend.ensures.used c.extend.ensures.read c.in_err-extend.ensures.same w.ensures.one w.ensures.two w.ensures.three),
+      omega (arith, c.self.invariant.2, c.reserve-3.ensures.capacity, c.in_err-extend.ensures.same),
     )
 
 pub invariant_of-self-2 : goal.invariant_of-self-2
@@ -45,7 +47,7 @@ invariant_of-self-2 c =
     let none = sym (any_row c.args.id rows) ∙ (rw (← c.self.view_is) at c.requires.fresh) in
     let room = rw (← c.self.view_is) at c.requires.small in
     let small : length t.runs.runs + fresh < 2 ^ 32 = omega (arith, room, places.full, places.small, c.len.ensures, c.len-3.ensures, c.min.ensures, t.spare.ok.0) in (
-      rw (c.push_reserved.ensures.items, c.reserve.ensures.items, row_same, c.len-size.ensures, c.truncate.ensures.items, c.in_ok-extend.ensures.runs)
+      rw (c.push_reserved.ensures.items, c.reserve.ensures.items, row_same, c.len-size.ensures, c.truncate.ensures.items, c.reserve-3.ensures.items, c.in_ok-extend.ensures.runs)
           (ArePlaces-grown rows spare (length t.runs.runs) c.args.id keep fresh places none small),
       rw (c.push_reserved.ensures.items, c.reserve.ensures.items, row_same, c.len-size.ensures, c.push_reserved-2.ensures.items, c.reserve-2.ensures.items)
           (HoldsRuns-grown rows spare (length t.runs.runs) c.args.id keep fresh t.runs c.extend.new.self t.free_from.items t.free_to.items t.used_from.items w.new.one.items w.new.two.items w.new.three.items t.counts.items
@@ -56,6 +58,7 @@ invariant_of-self-2 c =
           (rw (← c.self.view_is) at c.requires.none_free) (rw (← c.self.view_is) at c.requires.none_used)
           (same_runs t.runs.free c.extend.new.self.free t.runs.runs c.extend.new.self.runs c.extend.ensures.free c.extend.ensures.read)
           (same_runs t.runs.used c.extend.new.self.used t.runs.runs c.extend.new.self.runs c.extend.ensures.used c.extend.ensures.read)),
+      omega (arith, c.in_ok-reserve-3.ensures.ok, c.truncate.ensures.capacity, c.in_ok-extend.ensures.runs, c.len-size.ensures, places.full, c.len-4.ensures, t.spare.ok.0),
     )
 
 pub returns-clause-grown : goal.returns-clause-grown

@@ -118,6 +118,7 @@ invariant_of-self c =
       rw (first)
           (HoldsRuns-used_taken rows t.spare.items (length t.runs.runs) t.runs c.take_used.new.self t.free_from.items t.free_to.items t.used_from.items t.counts.items c.args.span at _ _ places refl holds stands found
           c.take_used.ensures.free (rw first at c.take_used.ensures.used) c.take_used.ensures.runs (ap (λ x. x - c.args.span.pages) (rw first at mark)) (ap (λ x. x - c.args.span.pages) mark_2)),
+      rw c.take_used.ensures.runs c.self.invariant.2,
     )
 
 pub returns-clause-used : goal.returns-clause-used
@@ -134,3 +135,18 @@ returns-clause-used c =
     let first : c.place-first.result ≡ place_at rows at c.args.span.first =
     c.place-first.ensures ∙ ap (λ (r : Row). get_or r.places c.args.span.first 0) (row_is rows at c.index.result.now stands.within c.index.ensures) in
     rw (← c.self.view_is, c.take_used.ensures.runs, c.take_used.ensures.used, first) (taken_out rows t.runs.runs t.runs.used c.args.span at found (omega (arith, holds.once (place_at rows at c.args.span.first))))
+
+pub returns-clause-others : goal.returns-clause-others
+returns-clause-others c =
+    let t = c.self.inside in
+    let rows = t.rows.items in
+    let places = c.self.invariant.0 in
+    let holds = c.self.invariant.1 in
+    let at = c.row_of-at.result in
+    let stands = rw c.as_slice.ensures.value at c.row_of-at.ensures in
+    let found = found_run rows t.runs.runs t.runs.used c.args.span at places.distinct holds.used_keys (rw (← c.self.view_is) at c.requires) stands in
+    let wide : c.args.span.first < width_at rows at = omega (arith, found.sized, found.fits) in
+    let wide_last : c.args.span.first + (c.args.span.pages - 1) < width_at rows at = omega (arith, found.sized, found.fits) in
+    let first : c.place-first.result ≡ place_at rows at c.args.span.first =
+    c.place-first.ensures ∙ ap (λ (r : Row). get_or r.places c.args.span.first 0) (row_is rows at c.index.result.now stands.within c.index.ensures) in
+    rw (← c.self.view_is, c.take_used.ensures.runs, c.take_used.ensures.used, first) (left_out rows t.runs.runs t.runs.used c.args.span at places.distinct holds.used_keys stands found)
