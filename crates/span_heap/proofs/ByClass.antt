@@ -1,15 +1,15 @@
 -- The run that a search takes stands in the list of its class.
-use Rattle.std.proofs.Common.{◌≡◌, ◌≢◌, ℕ, zero, suc, ◌+◌, ◌-◌, ◌<◌, ◌≤◌, min, Bool, true, false, not, ◌&&◌, cond, ltb, eqb, List, [], ◌∷◌, ◌++◌, length, map, get_or, Option, Some, None, MatchOption, refl, sym, ◌∙◌, ap, subst, arith, ◌⊎◌, inl, inr, append_assoc}
+use Rattle.std.proofs.Common.{◌≡◌, ℕ, suc, ◌+◌, ◌<◌, ◌≤◌, min, Bool, true, false, not, ◌&&◌, cond, eqb, List, [], ◌∷◌, ◌++◌, length, map, get_or, Option, Some, None, MatchOption, refl, sym, ◌∙◌, ap, subst, arith, inl, inr, append_assoc}
 use Rattle.std.specs.List.{filter, All, last_or, count_by}
 use Rattle.std.proofs.lemmas.List.{map-append, append-nil, get_or_past}
-use Rattle.std.proofs.lemmas.List.Elements.{All-head, All-tail, All-cons, All-nil, All-map, All-weaker}
+use Rattle.std.proofs.lemmas.List.Elements.{All-head, All-tail, All-cons, All-nil, All-map}
 use Rattle.std.proofs.lemmas.List.Sums.{sum_by-cons, sum_by-append}
-use Rattle.std.proofs.lemmas.Bool.{cases_eq, cases_lt, cases_Bool, eq-eqb, ne_eqb, eqb-true, eqb-false, and_parts, both_ways, not-true, leb-true, leb-false, le-leb, lt-leb, and_from}
+use Rattle.std.proofs.lemmas.Bool.{cases_eq, cases_lt, cases_Bool, eq-eqb, ne_eqb, eqb-true, and_parts, both_ways, leb-true, le-leb, and_from}
 use Rattle.free_lists.specs.Lists.{Classes, list_of, class_of_run}
 use Rattle.span_heap.specs.declared.run.Run.{Run}
 use Rattle.span_heap.specs.Pick.{fits, is_long, least_length, exact_length, pick}
-use Rattle.span_heap.specs.Placed.{run_at, AreEmpty, IsShortest, IsLatestLong, IsByClass, IsDistinct, rank}
-use Rattle.span_heap.proofs.SearchTakesThePick.{takes_fitting, skips_unfitting, skips_longer, least_length-bound, pick-none, pick_has_pages}
+use Rattle.span_heap.specs.Placed.{run_at, IsByClass, IsDistinct, rank}
+use Rattle.span_heap.proofs.SearchTakesThePick.{takes_fitting, skips_unfitting, skips_longer, pick-none, pick_has_pages}
 
 -- the last of a list
 last_or-there : (x : ℕ) (xs : List ℕ) → last_or (Some x) xs ≡ None → ⊥

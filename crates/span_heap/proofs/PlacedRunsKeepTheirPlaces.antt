@@ -1,11 +1,11 @@
 -- The lists by class beside the order of all places: each change of the one is a change of the other.
-use Rattle.std.proofs.Common.{◌≡◌, ◌≢◌, ℕ, zero, suc, ◌+◌, ◌-◌, ◌<◌, ◌≤◌, min, Bool, true, false, not, ◌&&◌, cond, eqb, List, [], ◌∷◌, ◌++◌, length, map, take, replicate, get_or, set, refl, sym, ◌∙◌, ap, subst, arith, ◌⊎◌, inl, inr, get_or-set_other, get_or-set_same, length-set}
+use Rattle.std.proofs.Common.{◌≡◌, ◌≢◌, ℕ, zero, suc, ◌+◌, ◌-◌, ◌<◌, ◌≤◌, min, Bool, true, false, not, cond, eqb, List, [], ◌∷◌, ◌++◌, length, map, take, replicate, get_or, set, refl, sym, ◌∙◌, ap, subst, arith, ◌⊎◌, inl, inr, get_or-set_other, get_or-set_same, length-set}
 use Rattle.std.specs.List.{filter, All, Contains, count_by}
-use Rattle.std.proofs.lemmas.List.Elements.{filter-append, All-head, All-tail, All-filter, All-append, All-cons, All-nil, Contains-append_right}
+use Rattle.std.proofs.lemmas.List.Elements.{filter-append, All-head, All-tail, All-filter, All-append, All-cons, All-nil}
 use Rattle.std.proofs.lemmas.List.{append-nil, get_or_default}
 use Rattle.std.proofs.lemmas.List.Sums.{sum_by-cons, sum_by_push}
 use Rattle.std.proofs.lemmas.Bool.{cases_eq, cases_lt, eq-eqb, ne_eqb, false_from_ne_true}
-use Rattle.free_lists.specs.Lists.{Classes, list_of, IsListed, class_of_run, without, Appends, Removes, AreNew}
+use Rattle.free_lists.specs.Lists.{Classes, list_of, IsListed, without, Appends, Removes, AreNew}
 use Rattle.span_heap.specs.declared.run.Run.{Run}
 use Rattle.span_heap.specs.Run.{is_run}
 use Rattle.span_heap.specs.Placed.{run_at, IsByClass, IsDistinct, IsPlaced}

@@ -1,5 +1,5 @@
 -- A segment joins the table: its pages get places of dropped segments first, and new ones behind.
-use Rattle.std.proofs.Common.{◌≡◌, ◌≢◌, ℕ, zero, suc, ◌+◌, ◌-◌, ◌^◌, ◌<◌, ◌≤◌, Bool, true, false, not, cond, eqb, leb, List, [], ◌∷◌, ◌++◌, length, map, take, drop, replicate, get_or, refl, sym, ◌∙◌, ap, subst, arith, ◌⊎◌, inl, inr, ⊎_elim, append_assoc}
+use Rattle.std.proofs.Common.{◌≡◌, ◌≢◌, ℕ, zero, suc, ◌+◌, ◌-◌, ◌^◌, ◌<◌, ◌≤◌, Bool, true, false, cond, eqb, leb, List, [], ◌∷◌, ◌++◌, length, map, take, drop, replicate, get_or, refl, sym, ◌∙◌, ap, subst, arith, ◌⊎◌, inl, inr, ⊎_elim, append_assoc}
 use Rattle.std.specs.List.{sum_by, count_by, filter, list_any, range_with_len, All, Contains}
 use Rattle.std.proofs.Math.ListN.{get_or-append}
 use Rattle.std.proofs.Math.Seq.{get_or-append_seam}
@@ -10,11 +10,11 @@ use Rattle.std.proofs.lemmas.List.Elements.{All-contains, Contains-get_or, Conta
 use Rattle.std.proofs.lemmas.Bool.{and_parts, eqb-true, eq-eqb, ne_eqb, cases_eq, cases_lt, cases_Bool}
 use Rattle.std.proofs.lemmas.Bool.Decides.{nat_tests}
 use Rattle.span_heap.specs.declared.run.Run.{Run}
-use Rattle.span_heap.specs.Run.{lies_in, begins_at, ends_at, pages_of}
+use Rattle.span_heap.specs.Run.{lies_in, begins_at, pages_of}
 use Rattle.span_heap.specs.Segment.{Segment}
 use Rattle.span_heap.specs.Changes.{NoneIn, segment_of}
 use Rattle.span_heap.specs.Placed.{Placed, run_at, free_of, used_of, IsDistinct}
-use Rattle.span_heap.specs.Table.{Row, shown_row, is_row, row_at, width_at, place_at, RowStands, AreApart, ArePlaces, HasKey, stops_at, MarksTell, CountsTell, IsClear, Widens, HoldsRuns, row_places}
+use Rattle.span_heap.specs.Table.{Row, shown_row, is_row, row_at, width_at, place_at, AreApart, ArePlaces, HasKey, stops_at, MarksTell, CountsTell, IsClear, Widens, HoldsRuns, row_places}
 use Rattle.span_heap.proofs.PartitionByCounts.{count_of_absent}
 use Rattle.span_heap.proofs.UsedPagesAreCounted.{one_place}
 use Rattle.span_heap.proofs.PlacedRunsKeepTheirPlaces.{none_counted, one_counted}

@@ -1,24 +1,24 @@
 -- A segment leaves the table: its places become spare, and serve the next segments.
-use Rattle.std.proofs.Common.{◌≡◌, ◌≢◌, ℕ, zero, suc, ◌+◌, ◌-◌, ◌^◌, ◌<◌, ◌≤◌, Bool, true, false, not, cond, eqb, ltb, List, [], ◌∷◌, ◌++◌, length, map, get_or, Option, Some, None, MatchOption, refl, sym, ◌∙◌, ap, subst, arith, ◌⊎◌, inl, inr, ⊎_elim}
+use Rattle.std.proofs.Common.{◌≡◌, ◌≢◌, ℕ, zero, suc, ◌+◌, ◌-◌, ◌<◌, ◌≤◌, Bool, true, false, not, cond, eqb, ltb, List, [], ◌∷◌, ◌++◌, length, map, get_or, Option, Some, None, MatchOption, refl, sym, ◌∙◌, ap, subst, arith, ◌⊎◌, inl, inr, ⊎_elim}
 use Rattle.std.specs.List.{sum_by, count_by, filter, remove, All, Contains}
 use Rattle.std.proofs.Math.ListN.{get_or-map}
-use Rattle.std.proofs.lemmas.List.{get_or_default, get_or_past, length-map, length-append}
+use Rattle.std.proofs.lemmas.List.{get_or_default, length-map, length-append}
 use Rattle.std.proofs.lemmas.List.Folds.{list_any-from_Any}
 use Rattle.std.proofs.lemmas.List.Edits.{get_or-remove_below, get_or-remove_above, length-remove}
 use Rattle.std.proofs.lemmas.List.Sums.{sum_by-cons, sum_by-append, sum_by-remove}
-use Rattle.std.proofs.lemmas.List.Elements.{All-head, All-tail, All-cons, All-nil, All-append, Contains-get_or, Contains-append_cases}
-use Rattle.std.proofs.lemmas.Bool.{and_parts, and_from, eqb-true, eq-eqb, ne_eqb, cases_eq, cases_lt, cases_Bool, both_ways, lt-ltb, le-ltb}
+use Rattle.std.proofs.lemmas.List.Elements.{All-append, Contains-get_or, Contains-append_cases}
+use Rattle.std.proofs.lemmas.Bool.{and_parts, and_from, eqb-true, eq-eqb, ne_eqb, cases_eq, cases_lt, cases_Bool, lt-ltb, le-ltb}
 use Rattle.span_heap.specs.declared.run.Run.{Run}
-use Rattle.span_heap.specs.Run.{lies_in, begins_at, ends_at, pages_of}
+use Rattle.span_heap.specs.Run.{lies_in, begins_at, pages_of}
 use Rattle.span_heap.specs.Runs.{dropped}
 use Rattle.span_heap.specs.Segment.{Segment}
 use Rattle.span_heap.specs.Heap.{LiesWithin, has_id, has_segment, size_of}
 use Rattle.span_heap.specs.Changes.{NoneIn, segment_of}
 use Rattle.span_heap.specs.Placed.{Placed, run_at, free_of, used_of, IsDistinct}
-use Rattle.span_heap.specs.Table.{Row, shown_row, is_row, row_at, width_at, place_at, RowStands, AreApart, ArePlaces, HasKey, stops_at, MarksTell, CountsTell, IsClear, HoldsRuns, IsRunAt, BeginFrom, page_of}
+use Rattle.span_heap.specs.Table.{Row, shown_row, is_row, row_at, width_at, place_at, RowStands, ArePlaces, HasKey, stops_at, MarksTell, CountsTell, IsClear, HoldsRuns, IsRunAt, BeginFrom, page_of}
 use Rattle.span_heap.proofs.Sums.{counted}
 use Rattle.span_heap.proofs.FreeingKeepsThePartition.{filter_all}
-use Rattle.span_heap.proofs.HeapOverTheTable.{nothing_marked, none_passes, whole_fresh}
+use Rattle.span_heap.proofs.HeapOverTheTable.{nothing_marked, whole_fresh}
 use Rattle.span_heap.proofs.PlacedRunsKeepTheirPlaces.{none_counted, one_counted, counted_there}
 use Rattle.span_heap.proofs.TableTellsEachRun.{all_sized, all_false, run_of_mark, one_begins, one_row, key_place, looked_up, wide_within}
 

@@ -1,6 +1,6 @@
 -- Each page tells which run begins or ends there, through each change.
-use Rattle.std.proofs.Common.{◌≡◌, ◌≢◌, ℕ, zero, suc, ◌+◌, ◌-◌, ◌^◌, ◌<◌, ◌≤◌, Bool, true, false, not, cond, eqb, ltb, List, [], ◌∷◌, ◌++◌, length, map, get_or, set, Some, None, refl, sym, ◌∙◌, ap, subst, arith, ◌⊎◌, inl, inr, get_or-set_other, get_or-set_same, length-set}
-use Rattle.std.specs.List.{sum_by, count_by, filter, position, position_or_len, list_any, All, Contains}
+use Rattle.std.proofs.Common.{◌≡◌, ◌≢◌, ℕ, zero, suc, ◌+◌, ◌-◌, ◌^◌, ◌<◌, ◌≤◌, Bool, true, false, not, cond, eqb, List, [], ◌∷◌, ◌++◌, length, map, get_or, set, Some, refl, sym, ◌∙◌, ap, subst, arith, inl, inr, get_or-set_other, get_or-set_same, length-set}
+use Rattle.std.specs.List.{count_by, filter, position, list_any, All, Contains}
 use Rattle.std.specs.List.Sorted.{IsPermutation}
 use Rattle.std.proofs.Math.ListN.{get_or-map}
 use Rattle.std.proofs.lemmas.List.{get_or_default, get_or_past, map-append, length-map}
@@ -21,8 +21,8 @@ use Rattle.span_heap.proofs.Sums.{sum_by-filter, filter_at_most_one, counted, co
 use Rattle.span_heap.proofs.PartitionByCounts.{sum_by-with}
 use Rattle.span_heap.proofs.SegmentsComeAndLeave.{sum_by-filter-le}
 use Rattle.span_heap.proofs.FreeingKeepsThePartition.{filter_none}
-use Rattle.span_heap.proofs.UsedPagesAreCounted.{one_place, position_finds}
-use Rattle.span_heap.proofs.PlacedRunsKeepTheirPlaces.{runs_removed, runs_stored, not_there, fewer, one_counted, none_counted, once_more}
+use Rattle.span_heap.proofs.UsedPagesAreCounted.{one_place}
+use Rattle.span_heap.proofs.PlacedRunsKeepTheirPlaces.{runs_removed, runs_stored, not_there, fewer, one_counted, once_more}
 
 -- rows
 

@@ -1,26 +1,16 @@
 -- A count of pages tells whether a segment has a run, and a test that one passes finds the one.
-use Rattle.std.proofs.Common.{◌≡◌, ◌≢◌, ℕ, zero, suc, ◌+◌, ◌-◌, ◌^◌, ◌<◌, ◌≤◌, Bool, true, false, not, cond, eqb, List, [], ◌∷◌, ◌++◌, length, ltb, Some, None, get_or, set, get_or-set_other, get_or-set_same, refl, sym, ◌∙◌, ap, arith, ◌↔◌, inl, inr}
-use Rattle.std.specs.Prelude.{map}
-use Rattle.std.specs.List.{sum_by, count_by, filter, position, position_or_len, list_any, All}
-use Rattle.std.specs.List.Sorted.{IsPermutation}
+use Rattle.std.proofs.Common.{◌≡◌, ◌≢◌, ℕ, zero, suc, ◌<◌, ◌≤◌, Bool, true, cond, eqb, List, [], ◌∷◌, length, ltb, Some, None, get_or, refl, sym, ◌∙◌, ap, arith, inl, inr}
+use Rattle.std.specs.List.{sum_by, count_by, position, position_or_len, list_any, All}
 use Rattle.std.proofs.lemmas.List.Sums.{sum_by-cons, get_or-le-sum_by, fails_before_first}
-use Rattle.std.proofs.lemmas.List.Folds.{Any-from_list_any, list_any-from_Any}
-use Rattle.std.proofs.lemmas.List.Quantifiers.{position-Some}
-use Rattle.std.proofs.lemmas.List.{get_or_default, length-set}
-use Rattle.std.proofs.lemmas.List.Sorted.{All-permutation}
-use Rattle.std.proofs.lemmas.List.Elements.{All-head, All-tail, All-push, All-filter, filter_passes, Contains-get_or}
-use Rattle.std.proofs.lemmas.Bool.{eqb-true, eq-eqb, ne_eqb, cases_eq, cases_lt, lt-ltb, cond-true, both_ways}
+use Rattle.std.proofs.lemmas.List.Folds.{Any-from_list_any}
+use Rattle.std.proofs.lemmas.List.Elements.{All-head, All-tail, Contains-get_or}
+use Rattle.std.proofs.lemmas.Bool.{eq-eqb, ne_eqb, cases_lt, lt-ltb, cond-true, both_ways}
 use Rattle.span_heap.specs.declared.run.Run.{Run}
-use Rattle.span_heap.specs.Run.{lies_in, pages_of}
-use Rattle.span_heap.specs.Runs.{front_of, back_of, dropped}
 use Rattle.span_heap.specs.Segment.{pages_in}
-use Rattle.span_heap.specs.Changes.{NoneIn, whole_of}
-use Rattle.span_heap.specs.Heap.{contents, has_id, has_segment, LiesWithin, IsKept}
-use Rattle.span_heap.proofs.Sums.{counted, cond-sum}
-use Rattle.span_heap.proofs.PartitionByCounts.{one_if, sum_by-with, sum_by-given, count_of_absent, counts_of}
-use Rattle.span_heap.proofs.CarvingKeepsThePartition.{cut_length, cut_sum}
-use Rattle.span_heap.proofs.SegmentsComeAndLeave.{sum_kept, sum_by-filter-le}
-use Rattle.span_heap.proofs.CountsAreKept.{pages_there, pages_in-is, size_there, size_there-is}
+use Rattle.span_heap.specs.Changes.{NoneIn}
+use Rattle.span_heap.proofs.Sums.{counted}
+use Rattle.span_heap.proofs.PartitionByCounts.{one_if}
+use Rattle.span_heap.proofs.CountsAreKept.{pages_there, pages_in-is}
 
 -- where an entry stands
 

@@ -1,5 +1,5 @@
 -- Runs that are each kept under a place: the free ones in lists by class, and all of them in an order.
-use Rattle.std.specs.Prelude.{◌≡◌, ℕ, zero, suc, ◌+◌, ◌-◌, ◌<◌, ◌≤◌, Bool, ◌==◌, List, [], ◌∷◌, ◌++◌, Option, Some, None, All, IsTrue, IsFalse, slice_index_or, filter, if◌then◌else◌, count_by, length, map, ◌≢◌}
+use Rattle.std.specs.Prelude.{◌≡◌, ℕ, suc, ◌+◌, ◌<◌, ◌≤◌, ◌==◌, List, [], ◌∷◌, ◌++◌, Option, Some, None, All, IsTrue, IsFalse, slice_index_or, filter, if◌then◌else◌, count_by, length, map, ◌≢◌}
 use Rattle.std.specs.List.{last_or}
 use Rattle.free_lists.specs.Lists.{Classes, list_of, class_of_run}
 use Rattle.span_heap.specs.declared.run.Run.{Run}

@@ -1,5 +1,5 @@
-use Rattle.std.proofs.Common.{rules, ◌≡◌, ℕ, zero, ◌+◌, ◌-◌, ◌<◌, ◌≤◌, min, List, [], ◌∷◌, ◌++◌, Some, None, refl, sym, ap, subst, ◌∙◌, arith, inl, inr, append_assoc, get_or, length, map, false}
-use Rattle.std.specs.List.{Contains, All, last_or}
+use Rattle.std.proofs.Common.{◌≡◌, zero, ◌-◌, ◌<◌, [], ◌∷◌, ◌++◌, refl, sym, ap, subst, ◌∙◌, arith, length, false}
+use Rattle.std.specs.List.{Contains, All}
 use Rattle.std.proofs.lemmas.List.Elements.{Contains-append_right, All-cons}
 use Rattle.free_lists.specs.Lists.{list_of}
 use Rattle.span_heap.specs.Pick.{fits}

@@ -1,5 +1,5 @@
-use Rattle.std.proofs.Common.{rules, ◌≡◌, ℕ, zero, ◌+◌, ◌-◌, ◌<◌, ◌≤◌, min, List, [], ◌∷◌, ◌++◌, Some, None, refl, sym, ap, subst, ◌∙◌, arith, inl, inr, append_assoc, get_or, length, map, false}
-use Rattle.std.specs.List.{All, last_or}
+use Rattle.std.proofs.Common.{◌≡◌, ℕ, ◌+◌, ◌-◌, ◌<◌, ◌≤◌, [], Some, None, arith, map, false}
+use Rattle.std.specs.List.{All}
 use Rattle.free_lists.specs.Lists.{list_of}
 use Rattle.std.proofs.lemmas.List.Elements.{All-nil}
 use Rattle.span_heap.specs.Pick.{fits, pick}

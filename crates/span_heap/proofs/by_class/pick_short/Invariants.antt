@@ -1,4 +1,3 @@
-use Rattle.std.proofs.Common.{◌≡◌}
 use Rattle.span_heap.specs.Placed.{AreEmpty}
 use Rattle.span_heap.proofs.by_class.pick_short.Given as goal
 

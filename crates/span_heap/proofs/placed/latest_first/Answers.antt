@@ -1,7 +1,6 @@
-use Rattle.std.proofs.Common.{◌≡◌, ℕ, zero, ◌<◌, List, [], ◌∷◌, ◌++◌, None, refl, sym, ap, subst, ◌∙◌, arith, length, map, reverse}
+use Rattle.std.proofs.Common.{◌≡◌, zero, ◌<◌, [], ◌∷◌, ◌++◌, refl, sym, ap, subst, ◌∙◌, arith, length, map, reverse}
 use mathlib.Core.List.{reverse-cons}
-use Rattle.std.specs.List.{Contains, All, last_or}
-use Rattle.std.proofs.lemmas.List.{get_or_default}
+use Rattle.std.specs.List.{Contains}
 use Rattle.std.proofs.lemmas.List.Elements.{Contains-append_right}
 use Rattle.free_lists.specs.Lists.{list_of}
 use Rattle.span_heap.specs.Placed.{run_at}

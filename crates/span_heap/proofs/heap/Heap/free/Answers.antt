@@ -1,14 +1,13 @@
-use Rattle.std.proofs.Common.{◌≡◌, ℕ, ◌+◌, ◌-◌, ◌≤◌, ◌++◌, ◌∷◌, [], not, true, false, refl, sym, ◌∙◌, ap, arith}
-use Rattle.std.specs.List.{filter, All}
+use Rattle.std.proofs.Common.{◌≡◌, ◌+◌, ◌≤◌, ◌∷◌, not, refl, ◌∙◌, ap, arith}
+use Rattle.std.specs.List.{filter}
 use Rattle.std.specs.List.Sorted.{IsPermutation}
-use Rattle.std.proofs.lemmas.List.Sorted.{Contains-permutation}
 use Rattle.std.proofs.lemmas.List.Elements.{All-contains, All-filter}
 use Rattle.span_heap.specs.declared.run.Run.{Run}
-use Rattle.span_heap.specs.Run.{begins_at, ends_at, is_beside, pages_of}
+use Rattle.span_heap.specs.Run.{begins_at, ends_at, is_beside}
 use Rattle.span_heap.specs.Runs.{pages_before, pages_behind, freed}
 use Rattle.span_heap.specs.Heap.{LiesWithin}
 use Rattle.span_heap.proofs.PartitionByCounts.{counts_of}
-use Rattle.span_heap.proofs.FreeingKeepsThePartition.{freed_alone, ends_before_it}
+use Rattle.span_heap.proofs.FreeingKeepsThePartition.{freed_alone}
 use Rattle.span_heap.proofs.CountsAreKept.{end_fits}
 use Rattle.span_heap.proofs.HeapOverTheTable.{can_free, beside_one, one_left, behind_same, filter_both_out, kept_as}
 use Rattle.span_heap.proofs.heap.Heap.free.Goals as goal

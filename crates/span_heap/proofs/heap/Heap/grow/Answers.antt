@@ -1,9 +1,8 @@
-use Rattle.std.proofs.Common.{◌≡◌, ◌+◌, ◌++◌, ◌∷◌, [], refl, sym, ◌∙◌, ap, subst, arith}
-use Rattle.std.specs.List.{All}
+use Rattle.std.proofs.Common.{◌++◌, ◌∷◌, [], refl, ◌∙◌, ap, arith}
 use Rattle.std.proofs.lemmas.List.Elements.{Contains-push}
-use Rattle.span_heap.specs.Changes.{NoneIn, whole_of, segment_of}
+use Rattle.span_heap.specs.Changes.{whole_of, segment_of}
 use Rattle.span_heap.proofs.CountsAreKept.{IsKept-grown, pushed}
-use Rattle.span_heap.proofs.HeapOverTheTable.{kept_as, same_contents, none_there, whole_lies, whole_fresh}
+use Rattle.span_heap.proofs.HeapOverTheTable.{kept_as, none_there, whole_lies, whole_fresh}
 use Rattle.span_heap.proofs.heap.Heap.grow.Goals as goal
 
 pub grow-requires-clause-none_free : goal.grow-requires-clause-none_free

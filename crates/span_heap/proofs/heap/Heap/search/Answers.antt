@@ -1,9 +1,8 @@
-use Rattle.std.proofs.Common.{rules, ◌≡◌, ◌+◌, ◌-◌, ◌++◌, ◌∷◌, [], Some, refl, sym, ◌∙◌, ap, arith}
+use Rattle.std.proofs.Common.{rules, ◌≡◌, ◌+◌, ◌-◌, ◌++◌, ◌∷◌, [], sym, ◌∙◌, ap, arith}
 use Rattle.std.proofs.lemmas.List.Elements.{Contains-push}
 use Rattle.std.proofs.lemmas.Option.{none-some}
 use Rattle.std.proofs.lemmas.Bool.{false≢true}
-use Rattle.span_heap.specs.Runs.{front_of, back_of, rest_of}
-use Rattle.span_heap.specs.Pick.{pick}
+use Rattle.span_heap.specs.Runs.{front_of, rest_of}
 use Rattle.span_heap.proofs.SearchTakesThePick.{pick-none}
 use Rattle.span_heap.proofs.CountsAreKept.{pushed}
 use Rattle.span_heap.proofs.HeapOverTheTable.{can_carve, kept_as}

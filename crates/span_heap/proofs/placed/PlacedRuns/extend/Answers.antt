@@ -1,6 +1,5 @@
-use Rattle.std.proofs.Common.{◌≡◌, ℕ, ◌+◌, ◌-◌, ◌<◌, ◌≤◌, List, ◌++◌, take, replicate, length, refl, sym, ◌∙◌, ap, arith}
+use Rattle.std.proofs.Common.{◌≡◌, ℕ, ◌+◌, ◌-◌, List, ◌++◌, take, replicate, length, refl, ◌∙◌, ap, arith}
 use Rattle.std.specs.Prelude.{vec_len}
-use Rattle.free_lists.specs.Lists.{list_of}
 use Rattle.span_heap.specs.declared.run.Run.{Run}
 use Rattle.span_heap.specs.Placed.{run_at}
 use Rattle.span_heap.proofs.PlacedRunsKeepTheirPlaces.{IsPlaced-reached, blank_pads}

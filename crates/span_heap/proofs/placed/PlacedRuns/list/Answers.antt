@@ -1,4 +1,4 @@
-use Rattle.std.proofs.Common.{◌≡◌, ◌+◌, ◌≤◌, ◌<◌, reverse, map, sym, ◌∙◌, ap, arith}
+use Rattle.std.proofs.Common.{reverse, map, ◌∙◌, ap, arith}
 use Rattle.std.proofs.lemmas.List.{reverse-reverse}
 use Rattle.free_lists.specs.Lists.{list_of}
 use Rattle.span_heap.specs.Placed.{run_at}

@@ -1,10 +1,8 @@
-use Rattle.std.proofs.Common.{◌≡◌, ℕ, ◌+◌, ◌-◌, ◌<◌, ◌≤◌, true, false, length, get_or, refl, sym, ◌∙◌, ap, arith, length-set}
-use Rattle.std.proofs.lemmas.Bool.{eqb-true, eqb-false, leb-true, leb-false}
-use Rattle.span_heap.specs.declared.run.Run.{Run}
-use Rattle.span_heap.specs.Run.{begins_at, ends_at, pages_of}
-use Rattle.span_heap.specs.Placed.{free_of, used_of}
+use Rattle.std.proofs.Common.{◌≡◌, ◌+◌, ◌-◌, ◌<◌, length, get_or, refl, ◌∙◌, ap, arith, length-set}
+use Rattle.span_heap.specs.Run.{begins_at}
+use Rattle.span_heap.specs.Placed.{free_of}
 use Rattle.span_heap.specs.Table.{Row, width_at, place_at, stops_at}
-use Rattle.span_heap.proofs.TableTellsEachRun.{row_is, row_small, mark_is, row_of_lies, lies_at, new_place, mark-le-pages, count-le-pages, run_added, runs_same, HoldsRuns-free_added}
+use Rattle.span_heap.proofs.TableTellsEachRun.{row_is, row_small, mark_is, row_of_lies, lies_at, new_place, mark-le-pages, run_added, runs_same, HoldsRuns-free_added}
 use Rattle.span_heap.proofs.table.PageTable.add_free.Goals as goal
 
 pub row_of-at-requires : goal.row_of-at-requires

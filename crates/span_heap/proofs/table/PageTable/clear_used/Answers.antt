@@ -1,6 +1,6 @@
-use Rattle.std.proofs.Common.{◌≡◌, ◌+◌, sym, ◌∙◌, ap, arith}
+use Rattle.std.proofs.Common.{◌∙◌, ap}
 use Rattle.span_heap.specs.Runs.{dropped}
-use Rattle.span_heap.proofs.HeapOverTheTable.{begin_later, begin_from_next, still_dropped}
+use Rattle.span_heap.proofs.HeapOverTheTable.{begin_later, still_dropped}
 use Rattle.span_heap.proofs.table.PageTable.clear_used.Goals as goal
 
 pub take_used-requires : goal.take_used-requires

@@ -1,9 +1,8 @@
-use Rattle.std.proofs.Common.{◌≡◌, ◌+◌, ◌≤◌, ◌<◌, not, refl, sym, ◌∙◌, ap, subst, arith}
+use Rattle.std.proofs.Common.{not, refl, sym, ◌∙◌, ap, subst, arith}
 use Rattle.std.specs.List.{Contains, filter}
 use Rattle.span_heap.specs.Heap.{has_id}
 use Rattle.span_heap.specs.Changes.{segment_of}
 use Rattle.span_heap.specs.Runs.{dropped}
-use Rattle.span_heap.specs.Table.{BeginFrom}
 use Rattle.span_heap.proofs.SegmentsLeaveTheTable.{page_lies}
 use Rattle.span_heap.proofs.table.PageTable.drop_row.Goals as goal
 

@@ -1,8 +1,7 @@
-use Rattle.std.proofs.Common.{◌≡◌, ℕ, ◌+◌, ◌<◌, ◌≤◌, length, get_or, sym, ◌∙◌, ap, arith}
-use Rattle.std.specs.List.{count_by, filter}
-use Rattle.span_heap.specs.declared.run.Run.{Run}
+use Rattle.std.proofs.Common.{◌≡◌, ◌<◌, length, get_or, ◌∙◌, ap, arith}
+use Rattle.std.specs.List.{filter}
 use Rattle.span_heap.specs.Run.{begins_at, pages_of}
-use Rattle.span_heap.specs.Placed.{free_of, used_of}
+use Rattle.span_heap.specs.Placed.{free_of}
 use Rattle.span_heap.specs.Table.{Row, width_at, place_at, page_of}
 use Rattle.span_heap.proofs.TableTellsEachRun.{row_is, row_of_lies, lies_at, mark_is}
 use Rattle.span_heap.proofs.SegmentsLeaveTheTable.{run_at_page}

@@ -1,4 +1,4 @@
-use Rattle.std.proofs.Common.{◌≡◌, ℕ, ◌+◌, ◌-◌, ◌^◌, ◌<◌, ◌≤◌, length, refl, sym, ◌∙◌, ap, arith}
+use Rattle.std.proofs.Common.{◌≡◌, ℕ, ◌+◌, ◌-◌, ◌^◌, ◌<◌, length, refl, sym, ◌∙◌, ap, arith}
 use Rattle.span_heap.specs.Table.{Row, row_places}
 use Rattle.span_heap.proofs.TableTellsEachRun.{any_row}
 use Rattle.span_heap.proofs.SegmentsJoinTheTable.{row_of_places, same_runs, ArePlaces-grown, HoldsRuns-grown, HoldsRuns-widened, shown_grown, row_places_length}

@@ -1,11 +1,10 @@
-use Rattle.std.proofs.Common.{◌≡◌, ℕ, ◌+◌, ◌-◌, ◌<◌, ◌≤◌, true, false, length, get_or, sym, ◌∙◌, ap, arith}
+use Rattle.std.proofs.Common.{◌≡◌, ◌+◌, ◌-◌, ◌<◌, length, get_or, sym, ◌∙◌, ap, arith}
 use Rattle.std.specs.List.{filter}
-use Rattle.std.proofs.lemmas.Bool.{eqb-true, eqb-false, leb-true, leb-false}
 use Rattle.span_heap.specs.declared.run.Run.{Run}
-use Rattle.span_heap.specs.Run.{begins_at, ends_at, pages_of}
-use Rattle.span_heap.specs.Placed.{free_of, used_of}
-use Rattle.span_heap.specs.Table.{Row, width_at, place_at, stops_at}
-use Rattle.span_heap.proofs.TableTellsEachRun.{row_is, row_small, row_of_lies, lies_at, mark_is, none_ends_at_0, none_begins_past}
+use Rattle.span_heap.specs.Run.{ends_at, pages_of}
+use Rattle.span_heap.specs.Placed.{free_of}
+use Rattle.span_heap.specs.Table.{Row, width_at, place_at}
+use Rattle.span_heap.proofs.TableTellsEachRun.{row_is, row_of_lies, lies_at, mark_is, none_ends_at_0}
 use Rattle.span_heap.proofs.table.PageTable.pages_before.Goals as goal
 
 pub row_of-at-requires : goal.row_of-at-requires

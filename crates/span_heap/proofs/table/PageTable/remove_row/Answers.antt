@@ -1,6 +1,6 @@
-use Rattle.std.proofs.Common.{◌≡◌, ◌+◌, ◌≤◌, ◌<◌, ◌++◌, length, map, sym, ◌∙◌, ap, arith}
+use Rattle.std.proofs.Common.{length, map, sym, ◌∙◌, ap, arith}
 use Rattle.span_heap.specs.Placed.{free_of, used_of}
-use Rattle.span_heap.specs.Table.{Row, shown_row, row_at}
+use Rattle.span_heap.specs.Table.{Row, shown_row}
 use Rattle.span_heap.proofs.TableTellsEachRun.{any_row, row_is}
 use Rattle.span_heap.proofs.SegmentsLeaveTheTable.{segment_there, emptied, none_dropped, row_fits, ArePlaces-dropped, HoldsRuns-dropped, shown_dropped}
 use Rattle.span_heap.proofs.table.PageTable.remove_row.Goals as goal

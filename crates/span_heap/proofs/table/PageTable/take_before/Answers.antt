@@ -1,4 +1,4 @@
-use Rattle.std.proofs.Common.{◌≡◌, ℕ, ◌+◌, ◌-◌, ◌≤◌, not, sym, ◌∙◌, arith}
+use Rattle.std.proofs.Common.{◌≡◌, sym, ◌∙◌, arith}
 use Rattle.std.specs.List.{filter}
 use Rattle.span_heap.specs.Run.{ends_at, pages_of}
 use Rattle.span_heap.proofs.FreeingKeepsThePartition.{filter_all}

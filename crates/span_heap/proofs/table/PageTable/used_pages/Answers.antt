@@ -1,5 +1,4 @@
-use Rattle.std.proofs.Common.{◌≡◌, ℕ, ◌<◌, length, get_or, sym, ◌∙◌, ap, arith}
-use Rattle.std.specs.List.{All}
+use Rattle.std.proofs.Common.{◌≡◌, sym, ◌∙◌, ap, arith}
 use Rattle.span_heap.specs.Segment.{pages_in}
 use Rattle.span_heap.specs.Placed.{used_of}
 use Rattle.span_heap.proofs.UsedPagesAreCounted.{none_in, pages_of_none}

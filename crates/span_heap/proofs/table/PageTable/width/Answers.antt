@@ -1,4 +1,4 @@
-use Rattle.std.proofs.Common.{◌≡◌, ◌<◌, length, sym, ◌∙◌, ap, arith}
+use Rattle.std.proofs.Common.{length, sym, ◌∙◌, ap, arith}
 use Rattle.span_heap.specs.Table.{Row}
 use Rattle.span_heap.proofs.TableTellsEachRun.{any_row, row_is, row_small}
 use Rattle.span_heap.proofs.SegmentsLeaveTheTable.{row_shown}
