@@ -63,10 +63,6 @@ kept_as heap segments used free pages free_pages same_segments same_used same_fr
     (subst (λ u. IsKept (contents segments u heap.free) pages free_pages) (sym same_used)
     (subst (λ f. IsKept (contents segments used f) pages free_pages) (sym same_free) kept))
 
-pub same_contents : (heap other : Contents) → heap.segments ≡ other.segments → heap.used ≡ other.used → heap.free ≡ other.free → heap ≡ other
-same_contents heap other segments used free =
-    ap (λ s. contents s heap.used heap.free) segments ∙ (ap (λ u. contents other.segments u heap.free) used ∙ ap (contents other.segments other.used) free)
-
 -- a picked run is free
 find_there : (test : Run → Bool) (runs : List Run) (run : Run) → find test runs ≡ Some run → Contains runs run
 find_there test [] run is = absurd (nothing is)
@@ -460,11 +456,3 @@ still_dropped runs run id page begins =
           absurd (both_ways (not (lies_in id x)) (ap not lies) away)
       | inr not_it ↦ ap not not_it
     ])
-
-pub begin_from_next : (runs : List Run) (id page : ℕ) → All (λ x. begins_at id page x ≡ false) runs → BeginFrom id page runs → BeginFrom id (page + 1) runs
-begin_from_next runs id page none from = λ k d within e.
-    let x = get_or runs k d in
-    elim (cases_eq x.first page) [
-      | inl same ↦ absurd (both_ways (begins_at id page x) (none k d within) (and_from (eqb x.segment id) (eqb x.first page) (eq-eqb x.segment id e) (eq-eqb x.first page same)))
-      | inr other ↦ omega (arith, from k d within e, other)
-    ]

@@ -1,9 +1,9 @@
 -- A segment joins the table: its pages get places of dropped segments first, and new ones behind.
-use Rattle.std.proofs.Common.{◌≡◌, ◌≢◌, ℕ, zero, suc, ◌+◌, ◌-◌, ◌^◌, ◌<◌, ◌≤◌, Bool, true, false, cond, eqb, leb, List, [], ◌∷◌, ◌++◌, length, map, take, drop, replicate, get_or, refl, sym, ◌∙◌, ap, subst, arith, ◌⊎◌, inl, inr, ⊎_elim, append_assoc}
+use Rattle.std.proofs.Common.{◌≡◌, ◌≢◌, ℕ, zero, suc, ◌+◌, ◌-◌, ◌^◌, ◌<◌, ◌≤◌, Bool, true, false, cond, eqb, leb, List, [], ◌∷◌, ◌++◌, length, map, take, drop, get_or, refl, sym, ◌∙◌, ap, subst, arith, ◌⊎◌, inl, inr, ⊎_elim, append_assoc}
 use Rattle.std.specs.List.{sum_by, count_by, filter, list_any, range_with_len, All, Contains}
 use Rattle.std.proofs.Math.ListN.{get_or-append}
 use Rattle.std.proofs.Math.Seq.{get_or-append_seam}
-use Rattle.std.proofs.lemmas.List.{get_or_past, map-append, length-append, length-drop, take-append-drop}
+use Rattle.std.proofs.lemmas.List.{map-append, length-append, length-drop, take-append-drop}
 use Rattle.std.proofs.lemmas.List.FromFn.{length-range_with_len, get_or-range_with_len}
 use Rattle.std.proofs.lemmas.List.Sums.{sum_by-cons, sum_by-append, sum_by_push}
 use Rattle.std.proofs.lemmas.List.Elements.{All-contains, Contains-get_or, Contains-append_left, Contains-append_right, Contains-append_cases}
@@ -209,28 +209,6 @@ ArePlaces-grown rows spare size id keep fresh places absent small =
           length-append (take keep spare) (drop keep spare),
           ap {B = ℕ} length (take-append-drop keep spare),
         )
-
--- marks over more places
-pub Widens-padded : (marks : List ℕ) (n : ℕ) → length marks ≤ n → (place : ℕ) → get_or (take n marks ++ replicate (n - length marks) 0) place 0 ≡ get_or marks place 0
-Widens-padded marks n reach place =
-    rw (take_all n marks reach)
-    (elim (cases_lt place (length marks)) [
-      | inl low ↦ get_or-append marks (replicate (n - length marks) 0) 0 place low
-      | inr past ↦ padding marks (n - length marks) place past ∙ sym (get_or_past marks place 0 past)
-    ])
-  where
-    padding : (xs : List ℕ) (k place : ℕ) → length xs ≤ place → get_or (xs ++ replicate k 0) place 0 ≡ 0
-    padding [] zero place past = refl
-    padding [] (suc k) zero past = refl
-    padding [] (suc k) (suc place) past = padding [] k place (omega arith)
-    padding (x ∷ xs) k zero past = absurd (omega (arith, past))
-    padding (x ∷ xs) k (suc place) past = padding xs k place (omega (arith, past))
-
-    take_all : (n : ℕ) (xs : List ℕ) → length xs ≤ n → take n xs ≡ xs
-    take_all zero [] reach = refl
-    take_all zero (x ∷ xs) reach = absurd (omega (arith, reach))
-    take_all (suc n) [] reach = refl
-    take_all (suc n) (x ∷ xs) reach = ap (λ ys. x ∷ ys) (take_all n xs (omega (arith, reach)))
 
 pub range_more : (a n j : ℕ) → a + n ≡ j → range_with_len a (suc n) ≡ range_with_len a n ++ j ∷ []
 range_more a zero j at = ap (λ i. i ∷ []) (omega (arith, at))

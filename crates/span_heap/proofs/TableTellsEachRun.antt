@@ -1,7 +1,8 @@
 -- Each page tells which run begins or ends there, through each change.
-use Rattle.std.proofs.Common.{◌≡◌, ◌≢◌, ℕ, zero, suc, ◌+◌, ◌-◌, ◌^◌, ◌<◌, ◌≤◌, Bool, true, false, not, cond, eqb, List, [], ◌∷◌, ◌++◌, length, map, get_or, set, Some, refl, sym, ◌∙◌, ap, subst, arith, inl, inr, get_or-set_other, get_or-set_same, length-set}
+use Rattle.std.proofs.Common.{◌≡◌, ◌≢◌, ℕ, zero, suc, ◌+◌, ◌-◌, ◌^◌, ◌<◌, ◌≤◌, Bool, true, false, not, cond, eqb, List, [], ◌∷◌, ◌++◌, length, map, get_or, set, Option, Some, None, refl, sym, ◌∙◌, ap, subst, arith, inl, inr, get_or-set_other, get_or-set_same, length-set}
 use Rattle.std.specs.List.{count_by, filter, position, list_any, All, Contains}
 use Rattle.std.specs.List.Sorted.{IsPermutation}
+use Rattle.std.specs.Option.{is_some}
 use Rattle.std.proofs.Math.ListN.{get_or-map}
 use Rattle.std.proofs.lemmas.List.{get_or_default, get_or_past, map-append, length-map}
 use Rattle.std.proofs.lemmas.List.Folds.{list_any-from_Any}
@@ -16,12 +17,12 @@ use Rattle.span_heap.specs.Run.{lies_in, begins_at, ends_at, is_run, pages_of}
 use Rattle.span_heap.specs.Segment.{Segment}
 use Rattle.span_heap.specs.Heap.{LiesWithin, has_segment}
 use Rattle.span_heap.specs.Placed.{Placed, run_at, free_of, used_of}
-use Rattle.span_heap.specs.Table.{Row, shown_row, is_row, row_at, width_at, place_at, RowStands, AreApart, ArePlaces, HasKey, stops_at, MarksTell, CountsTell, IsClear, HoldsRuns}
+use Rattle.span_heap.specs.Table.{Row, shown_row, is_row, row_at, width_at, place_at, RowStands, IsRowOf, AreApart, ArePlaces, HasKey, stops_at, MarksTell, CountsTell, IsClear, HoldsRuns}
 use Rattle.span_heap.proofs.Sums.{sum_by-filter, filter_at_most_one, counted, count_by-le-count_by}
 use Rattle.span_heap.proofs.PartitionByCounts.{sum_by-with}
 use Rattle.span_heap.proofs.SegmentsComeAndLeave.{sum_by-filter-le}
 use Rattle.span_heap.proofs.FreeingKeepsThePartition.{filter_none}
-use Rattle.span_heap.proofs.UsedPagesAreCounted.{one_place}
+use Rattle.span_heap.proofs.UsedPagesAreCounted.{one_place, position_finds}
 use Rattle.span_heap.proofs.PlacedRunsKeepTheirPlaces.{runs_removed, runs_stored, not_there, fewer, one_counted, once_more}
 
 -- rows
@@ -30,6 +31,14 @@ pub row_stands : (rows : List Row) (id at : ℕ) → position (is_row id) rows �
 row_stands rows id at found =
     let there = position-Some (is_row id) rows at (record { id = 0; places = [] }) found in
     record { within = there.0; numbered = eqb-true (row_at rows at).id id there.1 }
+
+pub row_found : (rows : List Row) (id : ℕ) (found : Option ℕ) → found ≡ position (is_row id) rows → IsRowOf rows id found
+row_found rows id None is =
+    elim (cases_Bool (list_any (is_row id) rows)) [
+      | inl there ↦ absurd (position_finds (is_row id) rows there (sym is))
+      | inr absent ↦ absent
+    ]
+row_found rows id (Some at) is = row_stands rows id at (sym is)
 
 pub row_is : (rows : List Row) (at : ℕ) (row : Row) → at < length rows → row ≡ get_or rows at row → row ≡ row_at rows at
 row_is rows at row within is = is ∙ get_or_default rows at row (record { id = 0; places = [] }) within
@@ -51,6 +60,10 @@ row_any : (rows : List Row) (id at : ℕ) → RowStands rows id at → list_any 
 row_any rows id at stands =
     let empty : Row = record { id = 0; places = [] } in
     list_any-from_Any (is_row id) rows (at, row_at rows at, stands.within, get_or_default rows at (row_at rows at) empty stands.within, eq-eqb (row_at rows at).id id stands.numbered)
+
+pub row_any_found : (rows : List Row) (id : ℕ) (found : Option ℕ) (answer : Bool) → IsRowOf rows id found → answer ≡ is_some found → answer ≡ list_any (is_row id) rows
+row_any_found rows id None answer absent is = is ∙ sym absent
+row_any_found rows id (Some at) answer stands is = is ∙ sym (row_any rows id at stands)
 
 -- keys
 

@@ -42,9 +42,6 @@ one_place p (x ∷ xs) (suc j) (suc k) d once within here first second =
 nothing_elsewhere : (other id n : ℕ) → other ≢ id → cond {A = ℕ} (eqb id other) n 0 ≡ 0
 nothing_elsewhere other id n apart = ap {B = ℕ} (λ b. cond b n 0) (ne_eqb id other (λ e. apart (sym e)))
 
-all_here : (id n : ℕ) → cond {A = ℕ} (eqb id id) n 0 ≡ n
-all_here id n = ap {B = ℕ} (λ b. cond b n 0) (eq-eqb id id refl)
-
 pub none_in : (id : ℕ) (runs : List Run) → All (λ run. 1 ≤ run.pages) runs → pages_in id runs ≡ 0 → NoneIn id runs
 none_in id runs sized none = λ k d within same.
     let run : Run = get_or runs k d in

@@ -1,5 +1,5 @@
 -- Runs that are each kept under a place: the free ones in lists by class, and all of them in an order.
-use Rattle.std.specs.Prelude.{◌≡◌, ℕ, suc, ◌+◌, ◌<◌, ◌≤◌, ◌==◌, List, [], ◌∷◌, ◌++◌, Option, Some, None, All, IsTrue, IsFalse, slice_index_or, filter, if◌then◌else◌, count_by, length, map, ◌≢◌}
+use Rattle.std.specs.Prelude.{◌≡◌, ℕ, suc, ◌+◌, ◌<◌, ◌≤◌, ◌==◌, List, [], ◌∷◌, ◌++◌, Option, Some, None, MatchOption, reverse, All, IsTrue, IsFalse, slice_index_or, filter, if◌then◌else◌, count_by, length, map, ◌≢◌}
 use Rattle.std.specs.List.{last_or}
 use Rattle.free_lists.specs.Lists.{Classes, list_of, class_of_run}
 use Rattle.span_heap.specs.declared.run.Run.{Run}
@@ -68,3 +68,26 @@ pub record IsPlaced (lists order : Classes) (runs : List Run) (listed ordered : 
 -- the run that a search takes
 abbrev pub IsPickOf : Placed → ℕ → ℕ → Option Run → Type 0
 IsPickOf placed n slack found = found ≡ pick (free_of placed) n slack
+
+-- what the search of the classes below 256 finds
+abbrev pub FindsShort : Classes → ℕ → ℕ → Option ℕ → Type 0
+FindsShort lists pages most found = MatchOption found (AreEmpty lists pages (most + 1)) (IsShortest lists pages most)
+
+-- what the search of class 256 finds
+abbrev pub FindsLong : Classes → List Run → ℕ → ℕ → Option ℕ → Type 0
+FindsLong lists runs pages slack found =
+    MatchOption found (All (λ place. IsFalse (fits pages slack (run_at runs place))) (list_of lists 256)) (IsLatestLong lists runs pages slack)
+
+-- what the search finds: the place of the run that is picked, in each order of the places that the lists tell of
+abbrev pub FindsPick : Classes → List Run → ℕ → ℕ → Option ℕ → Type 0
+FindsPick lists runs pages slack found =
+    (order : List ℕ) → IsByClass lists runs order
+    → MatchOption found (pick (map (run_at runs) order) pages slack ≡ None) (λ place. pick (map (run_at runs) order) pages slack ≡ Some (run_at runs place))
+
+-- each place of the list is below the number of runs
+abbrev pub AreWithin : List Run → List ℕ → Type 0
+AreWithin runs places = All (λ place. place < length runs) places
+
+-- the runs, the latest first
+abbrev pub latest_first : List Run → List ℕ → List Run
+latest_first runs places = reverse (map (run_at runs) places)

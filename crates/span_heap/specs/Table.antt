@@ -1,6 +1,6 @@
 -- The table of a heap's pages: each page has a place, and the place tells which run begins or ends there.
-use Rattle.std.specs.Prelude.{◌≡◌, ◌≢◌, ℕ, ◌+◌, ◌^◌, ◌<◌, ◌≤◌, Bool, IsTrue, IsFalse, ◌==◌, List, [], ◌++◌, drop, length, slice_index_or, map, All, Contains, Option, MatchOption, filter, count_by}
-use Rattle.std.specs.List.{range_with_len}
+use Rattle.std.specs.Prelude.{◌≡◌, ◌≢◌, ℕ, ◌+◌, ◌^◌, ◌<◌, ◌≤◌, Bool, not, IsTrue, IsFalse, ◌==◌, List, [], ◌++◌, drop, length, slice_index_or, map, All, Contains, Option, MatchOption, filter, count_by}
+use Rattle.std.specs.List.{list_any, range_with_len}
 use Rattle.span_heap.specs.declared.run.Run.{Run}
 use Rattle.span_heap.specs.Run.{lies_in, begins_at, ends_at, pages_of}
 use Rattle.span_heap.specs.Segment.{Segment}
@@ -36,6 +36,10 @@ place_at rows at page = slice_index_or (row_at rows at).places page 0
 pub record RowStands (rows : List Row) (id at : ℕ) : Type 0 where
   pub within : at < length rows
   pub numbered : (row_at rows at).id ≡ id
+
+-- the place of the row of this number, or none where no row has it
+abbrev pub IsRowOf : List Row → ℕ → Option ℕ → Type 0
+IsRowOf rows id found = MatchOption found (IsFalse (list_any (is_row id) rows)) (RowStands rows id)
 
 -- two pages with one place are one page
 abbrev pub AreApart : List Row → Type 0
@@ -107,10 +111,34 @@ row_places spare keep size fresh = drop keep spare ++ range_with_len size fresh
 abbrev pub page_of : ℕ → ℕ → Run
 page_of id page = record { segment = id; first = page; pages = 1 }
 
+-- no run begins at this page of the segment
+abbrev pub NoneBegins : ℕ → ℕ → List Run → Type 0
+NoneBegins id page runs = All (λ other. IsFalse (begins_at id page other)) runs
+
+-- the runs without the one that ends where the span begins
+abbrev pub without_before : List Run → Run → List Run
+without_before runs span = filter (λ run. not (ends_at span.segment span.first run)) runs
+
+-- the runs without the one that begins where the span ends
+abbrev pub without_behind : List Run → Run → List Run
+without_behind runs span = filter (λ run. not (begins_at span.segment (span.first + span.pages) run)) runs
+
+-- at most one of the runs ends where the span begins
+abbrev pub OneBefore : List Run → Run → Type 0
+OneBefore runs span = count_by (ends_at span.segment span.first) runs ≤ 1
+
+-- at most one of the runs begins where the span ends
+abbrev pub OneBehind : List Run → Run → Type 0
+OneBehind runs span = count_by (begins_at span.segment (span.first + span.pages)) runs ≤ 1
+
+-- each run has a page
+abbrev pub AreSized : List Run → Type 0
+AreSized runs = All (λ run. 1 ≤ run.pages) runs
+
 -- the one run that begins at this page of the segment, or none where none does
 abbrev pub IsRunAt : List Run → ℕ → ℕ → Option Run → Type 0
 IsRunAt runs id page found =
-    MatchOption found (All (λ other. IsFalse (begins_at id page other)) runs)
+    MatchOption found (NoneBegins id page runs)
     (λ run. Contains runs run × IsTrue (begins_at id page run) × (count_by (begins_at id page) runs ≤ 1))
 
 -- no run of this segment begins before this page
@@ -125,6 +153,6 @@ IsEmptied heap id =
 -- the run lies within a segment, no run begins where it begins, and it does not make the free pages too many
 pub record CanCome (heap : Contents) (run : Run) : Type 0 where
   pub lies : LiesWithin heap.segments run
-  pub not_free : All (λ other. IsFalse (begins_at run.segment run.first other)) heap.free
-  pub not_used : All (λ other. IsFalse (begins_at run.segment run.first other)) heap.used
+  pub not_free : NoneBegins run.segment run.first heap.free
+  pub not_used : NoneBegins run.segment run.first heap.used
   pub small : pages_of heap.free + run.pages < 2 ^ 32

@@ -1,7 +1,7 @@
 //! The free runs and used spans of a heap, each kept under a place.
-ghost use Rattle.std.specs.Prelude.{◌≡◌, ℕ, ◌+◌, ◌-◌, ◌^◌, ◌<◌, ◌≤◌, ◌++◌, ◌∷◌, [], All, Contains, IfOk, OnOk, OnErr, length, map, reverse, set};
+ghost use Rattle.std.specs.Prelude.{◌≡◌, ℕ, ◌+◌, ◌-◌, ◌^◌, ◌<◌, ◌≤◌, ◌++◌, ◌∷◌, [], Contains, IfOk, OnOk, OnErr, length, set};
 ghost use Rattle.free_lists.specs.Lists.{list_of, without};
-ghost use Rattle.span_heap.specs.Placed.{IsPickOf, IsDistinct, free_of, run_at};
+ghost use Rattle.span_heap.specs.Placed.{AreWithin, IsDistinct, IsPickOf, free_of, latest_first, run_at};
 
 use crate::by_class::pick_place;
 use crate::run::Run;
@@ -148,9 +148,9 @@ impl PlacedRuns {
 
 /// The free runs, the latest first.
 fn latest_first(alloc: Global, order: &Lists, runs: &[Run]) -> Result<Vec<Run>, NoMemory>
-    requires within { All (λ place. place < length runs.now) (list_of order.now 1) }
+    requires within { AreWithin runs.now (list_of order.now 1) }
     requires distinct { IsDistinct (list_of order.now 1) }
-    ensures { IfOk result (λ found. found.items ≡ reverse (map (run_at runs.now) (list_of order.now 1))) }
+    ensures { IfOk result (λ found. found.items ≡ latest_first runs.now (list_of order.now 1)) }
 {
     let mut found = Vec::new(alloc);
     let mut at = order.tail(FREE);

@@ -1,7 +1,7 @@
 //! A segment in the table of pages.
 ghost use Rattle.std.specs.Prelude.{◌≡◌, ◌+◌, ◌++◌, ◌^◌, ◌<◌, ◌≤◌, vec_len, vec_capacity, length, position, slice_index_or, IsTrue, IfOk, OnOk};
 ghost use Rattle.std.specs.List.{list_any};
-ghost use Rattle.span_heap.specs.Table.{is_row, RowStands, Widens, row_places};
+ghost use Rattle.span_heap.specs.Table.{is_row, RowStands, IsRowOf, Widens, row_places};
 
 use std::alloc::{AllocError, Global};
 use std::marker::Model;
@@ -63,11 +63,38 @@ impl PageRow {
     }
 }
 
-/// Where the row of this number stands, if it does.
-pub(crate) fn first_row(rows: &[PageRow], id: u64) -> Option<usize>
+/// Where the row of this number stands, if one is there. It is found by halves where the numbers
+/// rise, and else by a walk.
+pub(crate) fn find_row(rows: &[PageRow], id: u64) -> Option<usize>
+    ensures { IsRowOf rows.now id result }
+{
+    let near = near_row(rows, id);
+    if near < rows.len() && rows[near].id() == id {
+        return Some(near);
+    }
+    first_row(rows, id)
+}
+
+/// Where the first row of this number stands, by a walk.
+fn first_row(rows: &[PageRow], id: u64) -> Option<usize>
     ensures { result ≡ position (is_row id) rows.now }
 {
     rows.iter().position(|row| row.id() == id)
+}
+
+/// Where the row of this number stands if the numbers rise.
+fn near_row(rows: &[PageRow], id: u64) -> usize {
+    let mut low = 0;
+    let mut high = rows.len();
+    while low < high {
+        let middle = low + (high - low) / 2;
+        if rows[middle].id() < id {
+            low = middle + 1;
+        } else {
+            high = middle;
+        }
+    }
+    low
 }
 
 /// Where the row of this number stands.
@@ -75,17 +102,10 @@ pub(crate) fn row_of(rows: &[PageRow], id: u64) -> usize
     requires { IsTrue (list_any (is_row id) rows.now) }
     ensures { RowStands rows.now id result }
 {
-    match first_row(rows, id) {
+    match find_row(rows, id) {
         Some(at) => at,
         None => 0,
     }
-}
-
-/// Whether a row of this number is there.
-pub(crate) fn has_row(rows: &[PageRow], id: u64) -> bool
-    ensures { result ≡ list_any (is_row id) rows.now }
-{
-    rows.iter().any(|row| row.id() == id)
 }
 
 /// The places of a new segment: the spare ones from `keep` on, and `fresh` new ones from `size` on.

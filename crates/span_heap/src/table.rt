@@ -1,15 +1,16 @@
 //! The table of pages: which run begins or ends at each page of each segment.
-ghost use Rattle.std.specs.Prelude.{◌≡◌, ◌+◌, ◌-◌, ◌^◌, ◌<◌, ◌≤◌, ◌↔◌, not, [], ◌∷◌, ◌++◌, All, Contains, IsFalse, IsTrue, IsPermutation, OnOk, OnErr, IfOk, filter, count_by};
-ghost use Rattle.span_heap.specs.Run.{is_run, begins_at, ends_at, pages_of};
+ghost use Rattle.std.specs.Prelude.{◌≡◌, ◌+◌, ◌-◌, ◌^◌, ◌<◌, ◌≤◌, ◌↔◌, not, [], ◌∷◌, ◌++◌, Contains, IsFalse, IsTrue, IsPermutation, OnOk, OnErr, IfOk, filter};
+ghost use Rattle.span_heap.specs.Run.{is_run, pages_of};
 ghost use Rattle.span_heap.specs.Runs.{pages_before, pages_behind, back_of, rest_of, dropped};
 ghost use Rattle.span_heap.specs.Pick.{pick};
 ghost use Rattle.span_heap.specs.Segment.{pages_in};
 ghost use Rattle.span_heap.specs.Heap.{contents, LiesWithin, has_id, has_segment, size_of};
 ghost use Rattle.span_heap.specs.Changes.{NoneIn, segment_of};
-ghost use Rattle.span_heap.specs.Table.{page_of, IsRunAt, BeginFrom, IsEmptied, CanCome};
+ghost use Rattle.span_heap.specs.Table.{AreSized, BeginFrom, CanCome, IsEmptied, IsRunAt, NoneBegins};
+ghost use Rattle.span_heap.specs.Table.{OneBefore, OneBehind, page_of, without_before, without_behind};
 
 use crate::placed::PlacedRuns;
-use crate::row::{PageRow, first_row, has_row, new_places, row_of, widen_all};
+use crate::row::{PageRow, find_row, new_places, row_of, widen_all};
 use crate::run::Run;
 use std::alloc::Global;
 use std::marker::Model;
@@ -198,8 +199,8 @@ impl PageTable {
     /// Adds a free run, as the latest.
     pub(crate) fn add_free(&mut self, run: Run)
         requires lies { LiesWithin self.old.segments run }
-        requires not_free { All (λ other. IsFalse (begins_at run.segment run.first other)) self.old.free }
-        requires not_used { All (λ other. IsFalse (begins_at run.segment run.first other)) self.old.used }
+        requires not_free { NoneBegins run.segment run.first self.old.free }
+        requires not_used { NoneBegins run.segment run.first self.old.used }
         requires small { pages_of self.old.free + run.pages < 2 ^ 32 }
         ensures free { self.new.free ≡ self.old.free ++ run ∷ [] }
         ensures used { self.new.used ≡ self.old.used }
@@ -231,8 +232,8 @@ impl PageTable {
     /// Adds a used span.
     pub(crate) fn add_used(&mut self, span: Run)
         requires lies { LiesWithin self.old.segments span }
-        requires not_free { All (λ other. IsFalse (begins_at span.segment span.first other)) self.old.free }
-        requires not_used { All (λ other. IsFalse (begins_at span.segment span.first other)) self.old.used }
+        requires not_free { NoneBegins span.segment span.first self.old.free }
+        requires not_used { NoneBegins span.segment span.first self.old.used }
         requires small { pages_of self.old.used + span.pages < 2 ^ 32 }
         ensures free { self.new.free ≡ self.old.free }
         ensures used { self.new.used ≡ self.old.used ++ span ∷ [] }
@@ -261,10 +262,10 @@ impl PageTable {
     /// Takes out the free run that ends where this span begins, and answers its pages, or 0.
     pub(crate) fn take_before(&mut self, span: &Run) -> u32
         requires lies { LiesWithin self.old.segments span.now }
-        requires one { count_by (ends_at span.now.segment span.now.first) self.old.free ≤ 1 }
-        requires sized { All (λ run. 1 ≤ run.pages) self.old.free }
+        requires one { OneBefore self.old.free span.now }
+        requires sized { AreSized self.old.free }
         ensures pages { result ≡ pages_before self.old.free span.now }
-        ensures free { self.new.free ≡ filter (λ r. not (ends_at span.now.segment span.now.first r)) self.old.free }
+        ensures free { self.new.free ≡ without_before self.old.free span.now }
         ensures used { self.new.used ≡ self.old.used }
         ensures segments { self.new.segments ≡ self.old.segments }
     {
@@ -282,11 +283,11 @@ impl PageTable {
     /// Takes out the free run that begins where this span ends, and answers its pages, or 0.
     pub(crate) fn take_behind(&mut self, span: &Run) -> u32
         requires lies { LiesWithin self.old.segments span.now }
-        requires one { count_by (begins_at span.now.segment (span.now.first + span.now.pages)) self.old.free ≤ 1 }
-        requires sized { All (λ run. 1 ≤ run.pages) self.old.free }
+        requires one { OneBehind self.old.free span.now }
+        requires sized { AreSized self.old.free }
         requires end { span.now.first + span.now.pages < 2 ^ 32 }
         ensures pages { result ≡ pages_behind self.old.free span.now }
-        ensures free { self.new.free ≡ filter (λ r. not (begins_at span.now.segment (span.now.first + span.now.pages) r)) self.old.free }
+        ensures free { self.new.free ≡ without_behind self.old.free span.now }
         ensures used { self.new.used ≡ self.old.used }
         ensures segments { self.new.segments ≡ self.old.segments }
     {
@@ -348,7 +349,7 @@ impl PageTable {
     pub(crate) fn has(&self, span: &Run) -> bool
         ensures { IsTrue result ↔ Contains self.now.used span.now }
     {
-        let Some(at) = first_row(self.rows.as_slice(), span.segment) else {
+        let Some(at) = find_row(self.rows.as_slice(), span.segment) else {
             return false;
         };
         if span.pages == 0 {
@@ -365,7 +366,7 @@ impl PageTable {
     pub(crate) fn has_segment(&self, id: u64) -> bool
         ensures { result ≡ has_segment self.now.segments id }
     {
-        has_row(self.rows.as_slice(), id)
+        find_row(self.rows.as_slice(), id).is_some()
     }
 
     /// How many pages of a segment are used.

@@ -1,12 +1,11 @@
-use Rattle.std.proofs.Common.{◌≡◌, ℕ, ◌<◌, ◌≤◌, eqb, length, get_or, Some, None, sym, ◌∙◌, ap, arith}
-use Rattle.std.specs.List.{position, filter, count_by}
-use Rattle.std.proofs.lemmas.Bool.{eqb-true, eq-eqb, false≢true}
+use Rattle.std.proofs.Common.{◌≡◌, ℕ, ◌<◌, ◌≤◌, eqb, length, get_or, sym, ◌∙◌, ap, arith}
+use Rattle.std.specs.List.{filter, count_by}
+use Rattle.std.proofs.lemmas.Bool.{eqb-true, eq-eqb, false≢true, both_ways}
 use Rattle.span_heap.specs.declared.run.Run.{Run}
 use Rattle.span_heap.specs.Run.{begins_at, pages_of}
 use Rattle.span_heap.specs.Placed.{used_of}
-use Rattle.span_heap.specs.Table.{Row, is_row, width_at, place_at}
-use Rattle.span_heap.proofs.UsedPagesAreCounted.{position_finds}
-use Rattle.span_heap.proofs.TableTellsEachRun.{row_is, row_stands, row_of_run, found_run, mark_is, run_of_mark, marked_of_run}
+use Rattle.span_heap.specs.Table.{Row, width_at, place_at}
+use Rattle.span_heap.proofs.TableTellsEachRun.{row_is, row_of_run, found_run, mark_is, run_of_mark, marked_of_run}
 use Rattle.span_heap.proofs.table.PageTable.has.Goals as goal
 
 pub returns-in_default : goal.returns-in_default
@@ -16,9 +15,9 @@ returns-in_default c =
     let places = c.self.invariant.0 in
     let holds = c.self.invariant.1 in
     let span : Run = c.args.span.now in
-    let none : position (is_row span.segment) rows ≡ None = sym (rw c.as_slice.ensures.value at c.first_row.ensures) ∙ c.in_default.is in (
+    let none = rw c.as_slice.ensures.value at c.in_default.ensures in (
       λ e. absurd (false≢true e),
-      λ there. absurd (position_finds (is_row span.segment) rows (row_of_run rows t.runs.runs t.runs.used span holds.used_keys (rw (← c.self.view_is) at there)) none),
+      λ there. absurd (both_ways _ none (row_of_run rows t.runs.runs t.runs.used span holds.used_keys (rw (← c.self.view_is) at there))),
     )
 
 pub returns-then-span-eq0 : goal.returns-then-span-eq0
@@ -29,8 +28,7 @@ returns-then-span-eq0 c =
     let holds = c.self.invariant.1 in
     let span : Run = c.args.span.now in
     let at = c.in-Some.at in
-    let found_at : position (is_row span.segment) rows ≡ Some at = sym (rw c.as_slice.ensures.value at c.first_row.ensures) ∙ c.in-Some.is in
-    let stands = row_stands rows span.segment at found_at in (
+    let stands = rw c.as_slice.ensures.value at c.in-Some.ensures in (
       λ e. absurd (false≢true e),
       λ there. absurd (omega (arith, c.if-span-eq0.true, (found_run rows t.runs.runs t.runs.used span at places.distinct holds.used_keys (rw (← c.self.view_is) at there) stands).sized)),
     )
@@ -43,8 +41,7 @@ returns-then-span-len c =
     let holds = c.self.invariant.1 in
     let span : Run = c.args.span.now in
     let at = c.in-Some.at in
-    let found_at : position (is_row span.segment) rows ≡ Some at = sym (rw c.as_slice.ensures.value at c.first_row.ensures) ∙ c.in-Some.is in
-    let stands = row_stands rows span.segment at found_at in
+    let stands = rw c.as_slice.ensures.value at c.in-Some.ensures in
     let row = row_is rows at c.index.result.now stands.within c.index.ensures in
     let len : c.len.result ≡ width_at rows at = c.len.ensures ∙ ap {B = ℕ} (λ (r : Row). length r.places) row in (
       λ e. absurd (false≢true e),
@@ -61,8 +58,7 @@ index-requires-3 c =
     let holds = c.self.invariant.1 in
     let span : Run = c.args.span.now in
     let at = c.in-Some.at in
-    let found_at : position (is_row span.segment) rows ≡ Some at = sym (rw c.as_slice.ensures.value at c.first_row.ensures) ∙ c.in-Some.is in
-    let stands = row_stands rows span.segment at found_at in
+    let stands = rw c.as_slice.ensures.value at c.in-Some.ensures in
     let row = row_is rows at c.index.result.now stands.within c.index.ensures in
     let len : c.len.result ≡ width_at rows at = c.len.ensures ∙ ap {B = ℕ} (λ (r : Row). length r.places) row in
     let wide : span.first < width_at rows at = omega (arith, len, c.if-span-len.false) in
@@ -79,8 +75,7 @@ returns c =
     let holds = c.self.invariant.1 in
     let span : Run = c.args.span.now in
     let at = c.in-Some.at in
-    let found_at : position (is_row span.segment) rows ≡ Some at = sym (rw c.as_slice.ensures.value at c.first_row.ensures) ∙ c.in-Some.is in
-    let stands = row_stands rows span.segment at found_at in
+    let stands = rw c.as_slice.ensures.value at c.in-Some.ensures in
     let row = row_is rows at c.index.result.now stands.within c.index.ensures in
     let len : c.len.result ≡ width_at rows at = c.len.ensures ∙ ap {B = ℕ} (λ (r : Row). length r.places) row in
     let wide : span.first < width_at rows at = omega (arith, len, c.if-span-len.false) in

@@ -1,7 +1,9 @@
 use Rattle.std.proofs.Common.{◌∙◌, sym}
-use Rattle.span_heap.proofs.TableTellsEachRun.{any_row}
+use Rattle.span_heap.proofs.TableTellsEachRun.{any_row, row_any_found}
 use Rattle.span_heap.proofs.table.PageTable.has_segment.Goals as goal
 
 pub returns : goal.returns
 returns c =
-    rw (← c.self.view_is) (rw c.as_slice.ensures.value at c.has_row.ensures ∙ sym (any_row c.args.id c.self.inside.rows.items))
+    let rows = c.self.inside.rows.items in
+    rw (← c.self.view_is)
+    (row_any_found rows c.args.id c.find_row.result c.is_some.result (rw c.as_slice.ensures.value at c.find_row.ensures) c.is_some.ensures ∙ sym (any_row c.args.id rows))
