@@ -1,5 +1,5 @@
 -- The table of a heap's pages: each page has a place, and the place tells which run begins or ends there.
-use Rattle.std.specs.Prelude.{◌≡◌, ◌≢◌, ℕ, ◌+◌, ◌^◌, ◌<◌, ◌≤◌, Bool, not, IsTrue, IsFalse, ◌==◌, List, [], ◌++◌, drop, length, slice_index_or, map, All, Contains, Option, MatchOption, filter, count_by}
+use Rattle.std.specs.Prelude.{◌≡◌, ◌≢◌, ℕ, ◌+◌, ◌^◌, ◌<◌, ◌≤◌, Bool, not, IsTrue, IsFalse, ◌==◌, List, [], ◌∷◌, ◌++◌, drop, length, slice_index_or, map, All, Contains, Option, MatchOption, filter, count_by}
 use Rattle.std.specs.List.{list_any, range_with_len}
 use Rattle.span_heap.specs.declared.run.Run.{Run}
 use Rattle.span_heap.specs.Run.{lies_in, begins_at, ends_at, pages_of}
@@ -156,3 +156,7 @@ pub record CanCome (heap : Contents) (run : Run) : Type 0 where
   pub not_free : NoneBegins run.segment run.first heap.free
   pub not_used : NoneBegins run.segment run.first heap.used
   pub small : pages_of heap.free + run.pages < 2 ^ 32
+
+-- a segment of n pages came last
+abbrev pub Joins : List Segment → List Segment → ℕ → ℕ → Type 0
+Joins old new id n = new ≡ old ++ record { id = id; pages = n } ∷ []

@@ -16,11 +16,11 @@ use units::NoMemory;
 /// Segments of pages, cut into used spans and free runs.
 ///
 /// Each page of each segment lies in exactly one used span or free run, and no two free runs touch.
-/// Only `new`, `grow` and `runs` take memory. No call but `runs` goes along the runs or the spans of
-/// the heap: each is found by the pages where it begins and ends, and each free run by its length.
-/// A `search` looks at the latest run of each length below 256 and goes along the longer ones.
-/// `drop_segment` goes along the pages of its segment. A segment is found by halves where the
-/// numbers rise, as they came, and else by a walk.
+/// Only `new`, `grow` and `runs` take memory. No call but `runs` goes along all runs or spans: each
+/// is found by the pages where it begins and ends, and each free run by its length. A `search` looks
+/// at the latest run of each length below 256 and goes along the longer ones. `drop_segment` goes
+/// along the pages of its segment. A segment is found by halves where the numbers of the segments
+/// rise in the order in which they came, and else by a walk.
 #[derive(Debug, Drop)]
 pub struct Heap {
     table: PageTable,

@@ -35,7 +35,8 @@ impl Model for PlacedRuns {
 
     ghost Value = { Placed };
 
-    ghost view = { λ p. record { free = list_of p.order 1; used = list_of p.order 2; runs = p.runs.items } };
+    ghost view = { λ p.
+        record { free = list_of p.order 1; used = list_of p.order 2; runs = p.runs.items } };
 
     ghost invariant = { λ p. IsPlaced p.lists p.order p.runs.items p.listed p.ordered };
 }

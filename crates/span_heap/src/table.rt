@@ -6,8 +6,8 @@ ghost use Rattle.span_heap.specs.Pick.{pick};
 ghost use Rattle.span_heap.specs.Segment.{pages_in};
 ghost use Rattle.span_heap.specs.Heap.{contents, LiesWithin, has_id, has_segment, size_of};
 ghost use Rattle.span_heap.specs.Changes.{NoneIn, segment_of};
-ghost use Rattle.span_heap.specs.Table.{AreSized, BeginFrom, CanCome, IsEmptied, IsRunAt, NoneBegins};
-ghost use Rattle.span_heap.specs.Table.{OneBefore, OneBehind, page_of, without_before, without_behind};
+ghost use Rattle.span_heap.specs.Table.{AreSized, BeginFrom, CanCome, IsEmptied, IsRunAt, Joins};
+ghost use Rattle.span_heap.specs.Table.{NoneBegins, OneBefore, OneBehind, page_of, without_before, without_behind};
 
 use crate::placed::PlacedRuns;
 use crate::row::{PageRow, find_row, new_places, row_of, widen_all};
@@ -45,7 +45,8 @@ impl Model for PageTable {
     ghost view = { λ t. contents (map shown_row t.rows.items) (used_of t.runs) (free_of t.runs) };
 
     ghost invariant = { λ t. ArePlaces t.rows.items t.spare.items (length t.runs.runs)
-        × HoldsRuns t.rows.items t.runs t.free_from.items t.free_to.items t.used_from.items t.counts.items
+        × HoldsRuns t.rows.items t.runs t.free_from.items t.free_to.items t.used_from.items
+        t.counts.items
         × (length t.runs.runs ≤ vec_capacity t.spare) };
 }
 
@@ -71,7 +72,7 @@ impl PageTable {
         requires small { size_of self.old.segments + pages < 2 ^ 32 }
         requires none_free { NoneIn id self.old.free }
         requires none_used { NoneIn id self.old.used }
-        ensures grown { OnOk result (self.new.segments ≡ self.old.segments ++ segment_of id pages ∷ []) }
+        ensures grown { OnOk result (Joins self.old.segments self.new.segments id pages) }
         ensures same { OnErr result (self.new.segments ≡ self.old.segments) }
         ensures free { self.new.free ≡ self.old.free }
         ensures used { self.new.used ≡ self.old.used }
