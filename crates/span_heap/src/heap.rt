@@ -19,8 +19,8 @@ use units::NoMemory;
 /// Only `new`, `grow` and `runs` take memory. No call but `runs` goes along all runs or spans: each
 /// is found by the pages where it begins and ends, and each free run by its length. A `search` looks
 /// at the latest run of each length below 256 and goes along the longer ones. `drop_segment` goes
-/// along the pages of its segment. A segment is found by halves where the numbers of the segments
-/// rise in the order in which they came, and else by a walk.
+/// along the pages of its segment. A segment is found at once where the numbers of the segments rise
+/// by one in the order in which they came, by halves where they rise, and else by a walk.
 #[derive(Debug, Drop)]
 pub struct Heap {
     table: PageTable,

@@ -63,16 +63,28 @@ impl PageRow {
     }
 }
 
-/// Where the row of this number stands, if one is there. It is found by halves where the numbers
-/// rise, and else by a walk.
+/// Where the row of this number stands, if one is there. It is found at once where the numbers rise
+/// by one, by halves where they rise, and else by a walk.
 pub(crate) fn find_row(rows: &[PageRow], id: u64) -> Option<usize>
     ensures { IsRowOf rows.now id result }
 {
+    let straight = straight_row(rows, id);
+    if straight < rows.len() && rows[straight].id() == id {
+        return Some(straight);
+    }
     let near = near_row(rows, id);
     if near < rows.len() && rows[near].id() == id {
         return Some(near);
     }
     first_row(rows, id)
+}
+
+/// Where the row of this number stands if the numbers rise by one.
+fn straight_row(rows: &[PageRow], id: u64) -> usize {
+    match rows.first() {
+        Some(first) => id.saturating_sub(first.id()) as usize,
+        None => 0,
+    }
 }
 
 /// Where the first row of this number stands, by a walk.
