@@ -1,27 +1,25 @@
 -- The counts of a heap through each change, and the room in its lists.
-use Rattle.std.proofs.Common.{◌≡◌, ℕ, ◌+◌, ◌-◌, ◌^◌, ◌<◌, ◌≤◌, Bool, true, false, not, cond, eqb, List, [], ◌∷◌, ◌++◌, arith, ◌∙◌, refl, sym, ap, subst, inl, inr, length, get_or, slice_get, Some}
-use Rattle.std.specs.List.{sum_by, filter, All, Contains, remove}
+use Rattle.std.proofs.Common.{◌≡◌, ℕ, ◌+◌, ◌-◌, ◌^◌, ◌<◌, ◌≤◌, Bool, true, false, not, cond, eqb, List, [], ◌∷◌, ◌++◌, arith, ◌∙◌, refl, sym, ap, subst, inl, inr, length, slice_get, Some}
+use Rattle.std.specs.List.{sum_by, filter, Contains}
 use Rattle.std.specs.List.Sorted.{IsPermutation}
 use Rattle.std.proofs.lemmas.List.Sums.{sum_by-append, sum_by_push}
-use Rattle.std.proofs.lemmas.List.Sorted.{sum_by-IsPermutation, All-permutation, IsPermutation-append_comm, IsPermutation-cons, IsPermutation-trans, IsPermutation-remove}
-use Rattle.std.proofs.lemmas.List.Elements.{All-head, All-tail, Contains-get_or}
+use Rattle.std.proofs.lemmas.List.Sorted.{sum_by-IsPermutation, All-permutation, IsPermutation-append_comm, IsPermutation-cons, IsPermutation-trans}
+use Rattle.std.proofs.lemmas.List.Elements.{All-head}
 use Rattle.std.proofs.lemmas.List.Filters.{sum_by-filter_both}
 use Rattle.std.proofs.lemmas.Bool.{and_parts, eqb-true, ne_eqb}
 use Rattle.span_heap.specs.declared.run.Run.{Run}
 use Rattle.span_heap.specs.Segment.{Segment, pages_in}
 use Rattle.span_heap.specs.Run.{lies_in, pages_of}
-use Rattle.span_heap.specs.Runs.{front_of, back_of, rest_of, pages_before, pages_behind, freed, dropped, carved}
+use Rattle.span_heap.specs.Runs.{front_of, back_of, rest_of, pages_before, pages_behind, freed, dropped}
 use Rattle.span_heap.specs.Changes.{whole_of}
 use Rattle.span_heap.specs.Heap.{Contents, contents, IsPartition, IsKept, has_id, has_segment, size_of}
 use Rattle.span_heap.proofs.Sums.{sum_by-filter, cond-sum}
-use Rattle.span_heap.proofs.PartitionByCounts.{partition_from, counts_of, sum_by-with, sum_by-given, length-le-pages_of, used_end-le-size, free_end-le-size, is_run-once}
+use Rattle.span_heap.proofs.PartitionByCounts.{partition_from, counts_of, sum_by-with, sum_by-given, length-le-pages_of, used_end-le-size}
 use Rattle.span_heap.proofs.CarvingKeepsThePartition.{IsCounted-carved, carved_sum, rest_sum, cut_length, IsCounted-cut, cut_sum}
 use Rattle.span_heap.proofs.FreeingKeepsThePartition.{IsCounted-freed, freed_sum, before, behind, before_cases, behind_cases}
 use Rattle.span_heap.proofs.SegmentsComeAndLeave.{IsCounted-grown, IsCounted-dropped, sum_kept, both_kept}
 use Rattle.std.proofs.lemmas.List.{append_assoc}
-use Rattle.std.proofs.lemmas.Option.{get_or_from_slice_get}
 use Rattle.span_heap.specs.Pick.{pick}
-use Rattle.span_heap.proofs.SearchTakesThePick.{pick_has_pages, remove_run}
 
 -- how many pages a run has in a segment
 abbrev pub pages_there : ℕ → Run → ℕ
@@ -204,52 +202,9 @@ pub room : (heap : Contents) (pages free_pages : ℕ) → IsKept heap pages free
 room heap pages free_pages kept =
     omega (arith, kept.whole, length-le-pages_of heap.used (counts_of _ kept.partition).used_sized, length-le-pages_of heap.free (counts_of _ kept.partition).free_sized)
 
--- a span that stops being used leaves its page for a free run
-pub room_to_free : (segments : List Segment) (used free used' : List Run) (span : Run) (pages free_pages : ℕ) → IsKept (contents segments used free) pages free_pages
-    → IsPermutation used (span ∷ used') → length free < pages
-room_to_free segments used free used' span pages free_pages kept taken =
-    omega (
-      arith,
-      kept.whole,
-      length-le-pages_of free (counts_of _ kept.partition).free_sized,
-      sum_by-with (λ x. x.pages) used used' span taken,
-      All-head (λ (x : Run). 1 ≤ x.pages) span used' (All-permutation (λ (x : Run). 1 ≤ x.pages) used (span ∷ used') taken (counts_of _ kept.partition).used_sized),
-    )
-
--- a free run has a page that a used span can take
-pub room_to_use : (segments : List Segment) (used free others : List Run) (run : Run) (pages free_pages : ℕ) → IsKept (contents segments used free) pages free_pages
-    → IsPermutation free (run ∷ others) → length used < pages
-room_to_use segments used free others run pages free_pages kept taken =
-    omega (
-      arith,
-      kept.whole,
-      length-le-pages_of used (counts_of _ kept.partition).used_sized,
-      sum_by-with (λ x. x.pages) free others run taken,
-      All-head (λ (x : Run). 1 ≤ x.pages) run others (All-permutation (λ (x : Run). 1 ≤ x.pages) free (run ∷ others) taken (counts_of _ kept.partition).free_sized),
-    )
-
--- a span of two pages has room for two
-pub room_to_cut : (segments : List Segment) (used free used' : List Run) (span : Run) (pages free_pages : ℕ) → IsKept (contents segments used free) pages free_pages
-    → IsPermutation used (span ∷ used') → 2 ≤ span.pages → length used' + 1 < pages
-room_to_cut segments used free used' span pages free_pages kept taken long =
-    omega (
-      arith,
-      kept.whole,
-      sum_by-with (λ x. x.pages) used used' span taken,
-      length-le-pages_of used' others,
-    )
-  where
-    others : All (λ (x : Run). 1 ≤ x.pages) used'
-    others = All-tail (λ (x : Run). 1 ≤ x.pages) span used' (All-permutation (λ (x : Run). 1 ≤ x.pages) used (span ∷ used') taken (counts_of _ kept.partition).used_sized)
-
 -- the end of a span is below 2^32
 pub end_fits : (heap : Contents) (span : Run) (pages free_pages : ℕ) → IsKept heap pages free_pages → Contains heap.used span → span.first + span.pages < 2 ^ 32
 end_fits heap span pages free_pages kept there = omega (arith, kept.small, kept.size, used_end-le-size heap (counts_of heap kept.partition) span there)
-
--- and so is that of each free run
-pub ends_fit : (heap : Contents) (pages free_pages : ℕ) → IsKept heap pages free_pages → All (λ run. run.first + run.pages ≤ 2 ^ 32) heap.free
-ends_fit heap pages free_pages kept = λ k d within.
-    omega (arith, kept.small, kept.size, free_end-le-size heap (counts_of heap kept.partition) (get_or heap.free k d) (Contains-get_or heap.free k d within))
 
 -- a list that one more was pushed to, in another order
 pub pushed : (runs : List Run) (run : Run) → IsPermutation (run ∷ runs) (runs ++ run ∷ [])
@@ -264,10 +219,6 @@ cut_in_two used used' span front back taken =
     (IsPermutation-cons front (back ∷ used) (back ∷ span ∷ used') (IsPermutation-cons back used (span ∷ used') taken))
     (IsPermutation-append_comm (front ∷ back ∷ []) (span ∷ used')))
 
--- a run at a place, and the others
-pub at_place : (runs : List Run) (place : ℕ) (run : Run) → slice_get runs place ≡ Some run → place < length runs → IsPermutation runs (run ∷ remove runs place)
-at_place runs place run there within = IsPermutation-remove runs place run within (sym (get_or_from_slice_get runs place run run there))
-
 -- the place that a search found, and the run that stands there
 pub record HasFound (free : List Run) (n slack place : ℕ) (run : Run) : Type 0 where
   pub within : place < length free
@@ -279,17 +230,3 @@ pub found : (free : List Run) (n slack place : ℕ) (run : Run) → (place < len
 found free n slack place run at there =
     let same : n + slack - n ≡ slack = omega arith in
     record { within = at.0; there = there; picked = ap (pick free n) (sym same) ∙ (sym at.1 ∙ there) }
-
-pub IsKept-searched : (segments : List Segment) (used free : List Run) (n slack place pages free_pages : ℕ) (run : Run) → IsKept (contents segments used free) pages free_pages
-    → HasFound free n slack place run → 1 ≤ n
-    → (n ≤ free_pages) × IsKept (contents segments (used ++ front_of run n ∷ []) (remove free place ++ rest_of run n)) pages (free_pages - n)
-IsKept-searched segments used free n slack place pages free_pages run kept found low =
-    IsKept-carved segments used free (remove free place) (used ++ front_of run n ∷ []) run n pages free_pages kept
-    (at_place free place run found.there found.within) (pushed used (front_of run n)) low (pick_has_pages free n slack run found.picked)
-
--- taking the run out at its place is taking it out of the list
-pub carved_there : (segments : List Segment) (used free : List Run) (n slack place pages free_pages : ℕ) (run : Run) → IsKept (contents segments used free) pages free_pages
-    → HasFound free n slack place run → 1 ≤ n → remove free place ++ rest_of run n ≡ carved free run n
-carved_there segments used free n slack place pages free_pages run kept found low =
-    let once = is_run-once (contents segments used free) (counts_of _ kept.partition) run (omega (arith, low, pick_has_pages free n slack run found.picked)) in
-    ap (λ runs. runs ++ rest_of run n) (remove_run free place run found.within found.there once)

@@ -265,11 +265,11 @@ IsCounted-freed segments used free used' span whole taken =
     sized = All-head (λ (x : Run). 1 ≤ x.pages) span used' used_sized
 
 -- what no element passes leaves nothing, and its contrary all
-filter_none : {X : Type 0} (p : X → Bool) (xs : List X) → All (λ x. p x ≡ false) xs → filter p xs ≡ []
+pub filter_none : {X : Type 0} (p : X → Bool) (xs : List X) → All (λ x. p x ≡ false) xs → filter p xs ≡ []
 filter_none p [] none = refl
 filter_none p (x ∷ xs) none = rw (All-head (λ y. p y ≡ false) x xs none) (filter_none p xs (All-tail (λ y. p y ≡ false) x xs none))
 
-filter_all : {X : Type 0} (p : X → Bool) (xs : List X) → All (λ x. p x ≡ false) xs → filter (λ x. not (p x)) xs ≡ xs
+pub filter_all : {X : Type 0} (p : X → Bool) (xs : List X) → All (λ x. p x ≡ false) xs → filter (λ x. not (p x)) xs ≡ xs
 filter_all p [] none = refl
 filter_all p (x ∷ xs) none =
     rw (All-head (λ y. p y ≡ false) x xs none) (ap (λ ys. x ∷ ys) (filter_all p xs (All-tail (λ y. p y ≡ false) x xs none)))

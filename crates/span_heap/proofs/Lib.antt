@@ -6,3 +6,9 @@ pub mod FreeingKeepsThePartition
 pub mod SegmentsComeAndLeave
 pub mod CountsAreKept
 pub mod UsedPagesAreCounted
+pub mod ByClass
+pub mod PlacedRunsKeepTheirPlaces
+pub mod TableTellsEachRun
+pub mod SegmentsJoinTheTable
+pub mod HeapOverTheTable
+pub mod SegmentsLeaveTheTable

@@ -1,9 +1,9 @@
 -- The run that a search takes, and that it finds none exactly where none fits.
-use Rattle.std.proofs.Common.{◌≡◌, ℕ, ◌+◌, ◌<◌, ◌≤◌, min, Bool, true, false, not, ◌&&◌, cond, ltb, eqb, List, [], ◌∷◌, ◌++◌, length, take, get_or, slice_get, Option, Some, None, MatchOption, refl, sym, ◌∙◌, ap, subst, arith, inl, inr, zero, suc, reverse, ◌↔◌}
+use Rattle.std.proofs.Common.{◌≡◌, ℕ, ◌+◌, ◌<◌, ◌≤◌, min, Bool, true, false, not, ◌&&◌, cond, ltb, eqb, List, [], ◌∷◌, ◌++◌, length, get_or, slice_get, Option, Some, None, refl, sym, ◌∙◌, ap, subst, arith, inl, inr, zero, suc, reverse, ◌↔◌}
 use Rattle.std.specs.List.{filter, find, remove, count_by, All, list_any}
-use Rattle.std.proofs.lemmas.List.{reverse-append, take_more}
+use Rattle.std.proofs.lemmas.List.{reverse-append}
 use Rattle.std.proofs.lemmas.List.Elements.{filter-append, Contains-get_or, All-head, All-tail, All-cons, All-nil, All-weaker}
-use Rattle.std.proofs.lemmas.Option.{slice_get-get_or, get_or_from_slice_get}
+use Rattle.std.proofs.lemmas.Option.{get_or_from_slice_get}
 use Rattle.std.proofs.lemmas.Bool.{lt-ltb, le-leb, lt-leb, eq-eqb, ne_eqb, and_left, and_right, and_from, not_from_true, not_from_false, cases_lt, and_parts, leb-true, both_ways, cases_Bool, or_left, or_right, le-ltb, ltb-true, ltb-false}
 use Rattle.span_heap.specs.declared.run.Run.{Run}
 use Rattle.span_heap.specs.Pick.{fits, is_long, least_length, exact_length, latest, pick}
@@ -85,46 +85,6 @@ skips_longer runs run n slack longer =
     same_length : (exact : Bool) → exact_length (runs ++ run ∷ []) n slack ≡ min (exact_length runs n slack) (least_length (cond exact (run ∷ []) [])) → exact_length (runs ++ run ∷ []) n slack ≡ exact_length runs n slack
     same_length true e = omega (arith, e)
     same_length false e = omega (arith, e)
-
--- after the first i runs: the least exact length that fits, and the place of the run that a search among them takes
-abbrev pub HasPicked : List Run → ℕ → ℕ → ℕ → ℕ → Option ℕ → Type 0
-HasPicked runs i n slack least best =
-    (least ≡ exact_length (take i runs) n slack)
-    × MatchOption best (pick (take i runs) n slack ≡ None) (λ place. (place < i) × (slice_get runs place ≡ pick (take i runs) n slack))
-
-pub HasPicked-takes : (runs : List Run) (i n slack least length_here : ℕ) (best : Option ℕ) (b : Bool) (d : Run) → i < length runs
-    → b ≡ fits n slack (get_or runs i d) → b ≡ true → length_here ≡ min (get_or runs i d).pages 256 → length_here ≤ least
-    → HasPicked runs i n slack least best → HasPicked runs (i + 1) n slack length_here (Some i)
-HasPicked-takes runs i n slack least length_here best b d within is fit here better picked =
-    let P : List Run → Type 0 = λ xs. (length_here ≡ exact_length xs n slack) × ((i < i + 1) × (slice_get runs i ≡ pick xs n slack)) in
-    let taken = takes_fitting (take i runs) (get_or runs i d) n slack (sym is ∙ fit) (omega (arith, picked.0)) in
-    subst P (sym (take_more runs i d within)) (omega (arith, taken.0), (omega arith, slice_get-get_or runs i d within ∙ sym taken.1))
-
-HasPicked-same : (runs others : List Run) (i n slack least : ℕ) (best : Option ℕ)
-    → exact_length others n slack ≡ exact_length (take i runs) n slack → pick others n slack ≡ pick (take i runs) n slack
-    → HasPicked runs i n slack least best
-    → (least ≡ exact_length others n slack) × MatchOption best (pick others n slack ≡ None) (λ place. (place < i + 1) × (slice_get runs place ≡ pick others n slack))
-HasPicked-same runs others i n slack least None lengths picks picked = (picked.0 ∙ sym lengths, picks ∙ picked.1)
-HasPicked-same runs others i n slack least (Some place) lengths picks picked =
-    (picked.0 ∙ sym lengths, (omega (arith, picked.1.0), picked.1.1 ∙ sym picks))
-
-HasPicked-skips : (runs : List Run) (i n slack least : ℕ) (best : Option ℕ) (d : Run) → i < length runs
-    → (exact_length (take i runs ++ get_or runs i d ∷ []) n slack ≡ exact_length (take i runs) n slack)
-    × (pick (take i runs ++ get_or runs i d ∷ []) n slack ≡ pick (take i runs) n slack)
-    → HasPicked runs i n slack least best → HasPicked runs (i + 1) n slack least best
-HasPicked-skips runs i n slack least best d within same picked =
-    let P : List Run → Type 0 = λ xs. (least ≡ exact_length xs n slack) × MatchOption best (pick xs n slack ≡ None) (λ place. (place < i + 1) × (slice_get runs place ≡ pick xs n slack)) in
-    subst P (sym (take_more runs i d within)) (HasPicked-same runs (take i runs ++ get_or runs i d ∷ []) i n slack least best same.0 same.1 picked)
-
-pub HasPicked-unfitting : (runs : List Run) (i n slack least : ℕ) (best : Option ℕ) (b : Bool) (d : Run) → i < length runs
-    → b ≡ fits n slack (get_or runs i d) → b ≡ false → HasPicked runs i n slack least best → HasPicked runs (i + 1) n slack least best
-HasPicked-unfitting runs i n slack least best b d within is unfit =
-    HasPicked-skips runs i n slack least best d within (skips_unfitting (take i runs) (get_or runs i d) n slack (sym is ∙ unfit))
-
-pub HasPicked-longer : (runs : List Run) (i n slack least length_here : ℕ) (best : Option ℕ) (d : Run) → i < length runs
-    → length_here ≡ min (get_or runs i d).pages 256 → least < length_here → HasPicked runs i n slack least best → HasPicked runs (i + 1) n slack least best
-HasPicked-longer runs i n slack least length_here best d within here longer picked =
-    HasPicked-skips runs i n slack least best d within (skips_longer (take i runs) (get_or runs i d) n slack (omega (arith, picked.0))) picked
 
 -- what a list's search finds passes the test
 found_passes : {X : Type 0} (test : X → Bool) (xs : List X) (x : X) → find test xs ≡ Some x → test x ≡ true

@@ -4,3 +4,5 @@ pub mod Pick
 pub mod Segment
 pub mod Heap
 pub mod Changes
+pub mod Placed
+pub mod Table

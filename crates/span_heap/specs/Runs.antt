@@ -1,5 +1,5 @@
 -- How the free runs of a heap change. They are a list, the oldest first.
-use Rattle.std.specs.Prelude.{ℕ, ◌+◌, ◌-◌, not, nat_lt, List, [], ◌∷◌, ◌++◌, filter, if◌then◌else◌}
+use Rattle.std.specs.Prelude.{◌≡◌, ◌≤◌, Option, MatchOption, ℕ, ◌+◌, ◌-◌, not, nat_lt, List, [], ◌∷◌, ◌++◌, filter, if◌then◌else◌}
 use Rattle.span_heap.specs.declared.run.Run.{Run}
 use Rattle.span_heap.specs.Run.{lies_in, begins_at, ends_at, is_beside, is_run, pages_of}
 
@@ -44,3 +44,8 @@ freed runs span =
 -- after a segment was dropped: all its runs leave
 abbrev pub dropped : List Run → ℕ → List Run
 dropped runs segment = filter (λ run. not (lies_in segment run)) runs
+
+-- the run of n pages from this page on, or none where n is 0
+abbrev pub IsMarkedRun : ℕ → ℕ → ℕ → Option Run → Type 0
+IsMarkedRun segment first n found =
+    MatchOption found (n ≡ 0) (λ run. (1 ≤ n) × (run ≡ record { segment = segment; first = first; pages = n }))

@@ -6,12 +6,9 @@ ghost use Rattle.span_heap.specs.Segment.{pages_in};
 ghost use Rattle.span_heap.specs.Heap.{contents, IsPartition, has_segment, size_of};
 ghost use Rattle.span_heap.specs.Changes.{Grows, found_span, IsCarved, Uses, NoneFits, Splits, Frees, Drops, NoneIn};
 
-use crate::free_runs::{carve, join, pick};
 use crate::run::{Run, Runs};
-use crate::run_list::{make_room, pages_in, remove_runs};
-use crate::segment::{SegmentEntry, add_used, is_there, remove_segment, take_used, used_pages};
 use crate::span::Span;
-use crate::used_spans::take_out;
+use crate::table::PageTable;
 use std::alloc::Global;
 use std::marker::Model;
 use units::NoMemory;
@@ -19,35 +16,27 @@ use units::NoMemory;
 /// Segments of pages, cut into used spans and free runs.
 ///
 /// Each page of each segment lies in exactly one used span or free run, and no two free runs touch.
-/// Only `new`, `grow` and `runs` take memory, since a segment comes with room for one span and one
-/// run per page. `free_pages` reads a count, `has_segment` and `all_free` go along the segments, and
-/// each other call along the segments, used spans or free runs.
+/// Only `new`, `grow` and `runs` take memory. No call but `runs` goes along all runs or spans: each
+/// is found by the pages where it begins and ends, and each free run by its length. A `search` looks
+/// at the latest run of each length below 256 and goes along the longer ones. `drop_segment` goes
+/// along the pages of its segment. A segment is found at once where the numbers of the segments rise
+/// by one in the order in which they came, by halves where they rise, and else by a walk.
 #[derive(Debug, Drop)]
 pub struct Heap {
-    /// In the order in which they came.
-    segments: Vec<SegmentEntry>,
-    /// In no order.
-    used: Vec<Run>,
-    /// The oldest first.
-    free: Vec<Run>,
+    table: PageTable,
     pages: u32,
     free_pages: u32,
 }
 
 impl Model for Heap {
-    ghost use Rattle.std.specs.Prelude.{◌≤◌, map, vec_capacity};
-    ghost use Rattle.span_heap.specs.Segment.{shown, AreCounted};
-    ghost use Rattle.span_heap.specs.Heap.{Contents, contents, IsKept};
+    ghost use Rattle.span_heap.specs.Heap.{Contents, IsKept};
 
     ghost Value = { Contents };
 
-    ghost view = { λ h. contents (map shown h.segments.items) h.used.items h.free.items };
+    ghost view = { λ h. h.table };
 
-    // Each count of pages is that of the lists, and both lists have room for one run per page.
-    ghost invariant = { λ h.
-        IsKept (contents (map shown h.segments.items) h.used.items h.free.items) h.pages h.free_pages
-        × (h.pages ≤ vec_capacity h.used) × (h.pages ≤ vec_capacity h.free)
-        × AreCounted h.segments.items h.used.items };
+    // Both counts of pages are those of the lists.
+    ghost invariant = { λ h. IsKept h.table h.pages h.free_pages };
 }
 
 impl Heap {
@@ -56,9 +45,7 @@ impl Heap {
         ensures { IfOk result (λ heap. heap ≡ contents [] [] []) }
     {
         Ok(Heap {
-            segments: Vec::new(alloc),
-            used: Vec::new(alloc),
-            free: Vec::new(alloc),
+            table: PageTable::new(alloc)?,
             pages: 0,
             free_pages: 0,
         })
@@ -68,7 +55,7 @@ impl Heap {
     ///
     /// Conditions: no segment of the heap has this number, it has 1 to 65,536 pages, and all pages
     /// of the heap together stay below 2^32.
-    pub fn grow(&mut self, _alloc: Global, segment: u64, pages: u32) -> Result<Span, NoMemory>
+    pub fn grow(&mut self, alloc: Global, segment: u64, pages: u32) -> Result<Span, NoMemory>
         requires fresh { IsFalse (has_segment self.old.segments segment) }
         requires sized { (1 ≤ pages) × (pages ≤ MOST_PAGES) }
         requires small { size_of self.old.segments + pages < 2 ^ 32 }
@@ -76,22 +63,14 @@ impl Heap {
         ensures same { OnErr result (self.new ≡ self.old) }
         ensures partition { IsPartition self.new }
     {
-        let total = self.pages + pages;
-        self.segments.reserve(1)?;
-        make_room(&mut self.used, total)?;
-        make_room(&mut self.free, total)?;
         let run = Run {
             segment,
             first: 0,
             pages,
         };
-        self.segments.push_reserved(SegmentEntry {
-            id: segment,
-            pages,
-            used: pages,
-        });
-        self.used.push_reserved(run);
-        self.pages = total;
+        self.table.grow(alloc, segment, pages)?;
+        self.table.add_used(run);
+        self.pages += pages;
         Ok(Span { run })
     }
 
@@ -111,12 +90,13 @@ impl Heap {
         ensures none_fits { IsNone result ↔ NoneFits self.old.free pages slack }
         ensures partition { IsPartition self.new }
     {
-        let place = pick(self.free.as_slice(), pages, pages + slack)?;
-        let run = carve(&mut self.free, place, pages).front(pages);
-        self.used.push_reserved(run);
-        add_used(&mut self.segments, run.segment, pages);
+        let run = self.table.pick(pages, pages + slack)?;
+        let front = run.front(pages);
+        self.table.take_free(run);
+        self.table.add_used(front);
+        self.table.add_rest(run, pages);
         self.free_pages -= pages;
-        Some(Span { run })
+        Some(Span { run: front })
     }
 
     /// Cuts a used span in two, behind its first `front` pages.
@@ -130,10 +110,10 @@ impl Heap {
         ensures partition { IsPartition self.new }
     {
         let whole = span.run;
-        take_out(&mut self.used, whole);
+        self.table.take_used(whole);
         let (front, back) = (whole.front(front), whole.back(front));
-        self.used.push_reserved(front);
-        self.used.push_reserved(back);
+        self.table.add_used(front);
+        self.table.add_used(back);
         (Span { run: front }, Span { run: back })
     }
 
@@ -147,9 +127,14 @@ impl Heap {
         ensures partition { IsPartition self.new }
     {
         let run = span.run;
-        take_out(&mut self.used, run);
-        join(&mut self.free, run);
-        take_used(&mut self.segments, run.segment, run.pages);
+        let before = self.table.take_before(&run);
+        let behind = self.table.take_behind(&run);
+        self.table.take_used(run);
+        self.table.add_free(Run {
+            segment: run.segment,
+            first: run.first - before,
+            pages: before + run.pages + behind,
+        });
         self.free_pages += run.pages;
     }
 
@@ -163,13 +148,11 @@ impl Heap {
         ensures dropped { Drops self.old self.new segment }
         ensures partition { IsPartition self.new }
     {
-        let used = used_pages(self.segments.as_slice(), segment);
-        let free = pages_in(self.free.as_slice(), segment);
-        remove_segment(&mut self.segments, segment);
-        remove_runs(&mut self.used, segment);
-        remove_runs(&mut self.free, segment);
-        self.pages -= used + free;
-        self.free_pages -= free;
+        let used = self.table.used_pages(segment);
+        let pages = self.table.width(segment);
+        self.table.drop_row(segment);
+        self.pages -= pages;
+        self.free_pages -= pages - used;
         used
     }
 
@@ -179,14 +162,14 @@ impl Heap {
         ensures answer { IsTrue result ↔ Contains self.now.used span.now }
         ensures partition { IsPartition self.now }
     {
-        self.used.contains(&span.run)
+        self.table.has(&span.run)
     }
 
     /// Whether one of the segments has this number.
     pub fn has_segment(&self, segment: u64) -> bool
         ensures { result ≡ has_segment self.now.segments segment }
     {
-        is_there(self.segments.as_slice(), segment)
+        self.table.has_segment(segment)
     }
 
     /// Whether no used span lies in this segment.
@@ -196,7 +179,7 @@ impl Heap {
         requires { IsTrue (has_segment self.now.segments segment) }
         ensures { IsTrue result ↔ NoneIn segment self.now.used }
     {
-        used_pages(self.segments.as_slice(), segment) == 0
+        self.table.used_pages(segment) == 0
     }
 
     /// The pages of all free runs.
@@ -211,7 +194,7 @@ impl Heap {
         ensures { IfOk result (λ runs. runs ≡ self.now.free) }
     {
         Ok(Runs {
-            runs: Vec::from_slice(alloc, self.free.as_slice())?,
+            runs: self.table.list(alloc)?,
         })
     }
 }

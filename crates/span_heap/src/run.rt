@@ -1,7 +1,6 @@
 ghost use Rattle.std.specs.Prelude.{◌≡◌, ℕ, ◌+◌, ◌-◌, ◌^◌, ◌<◌, ◌≤◌, List, length, slice_get};
 ghost use Rattle.span_heap.specs.Pick.{fits};
-ghost use Rattle.span_heap.specs.Runs.{front_of, back_of};
-ghost use Rattle.span_heap.specs.Run.{begins_at, ends_at, is_beside};
+ghost use Rattle.span_heap.specs.Runs.{front_of, back_of, IsMarkedRun};
 
 use std::marker::Model;
 
@@ -17,11 +16,25 @@ pub struct Run {
 }
 
 impl Run {
-    /// The page behind the last one.
-    fn end(&self) -> u64
-        ensures { result ≡ self.now.first + self.now.pages }
+    /// No page at all.
+    pub(crate) const NONE: Run = Run {
+        segment: 0,
+        first: 0,
+        pages: 0,
+    };
+
+    /// The run of so many pages from a page on, where there are any.
+    pub(crate) fn marked(segment: u64, first: u32, pages: u32) -> Option<Run>
+        ensures { IsMarkedRun segment first pages result }
     {
-        u64::from(self.first) + u64::from(self.pages)
+        if pages == 0 {
+            return None;
+        }
+        Some(Run {
+            segment,
+            first,
+            pages,
+        })
     }
 
     /// Its first `pages` pages.
@@ -50,27 +63,6 @@ impl Run {
         ensures { result ≡ fits pages (most - pages) self.now }
     {
         pages <= self.pages && self.pages <= most
-    }
-
-    /// Whether this run ends where the other begins.
-    pub(crate) fn is_before(&self, other: &Run) -> bool
-        ensures { result ≡ ends_at other.now.segment other.now.first self.now }
-    {
-        self.segment == other.segment && self.end() == u64::from(other.first)
-    }
-
-    /// Whether this run begins where the other ends.
-    pub(crate) fn is_behind(&self, other: &Run) -> bool
-        ensures { result ≡ begins_at other.now.segment (other.now.first + other.now.pages) self.now }
-    {
-        self.segment == other.segment && u64::from(self.first) == other.end()
-    }
-
-    /// Whether this run stands directly before the other or directly behind it.
-    pub(crate) fn is_beside(&self, other: &Run) -> bool
-        ensures { result ≡ is_beside other.now self.now }
-    {
-        self.is_before(other) || self.is_behind(other)
     }
 }
 

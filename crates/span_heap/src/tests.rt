@@ -96,3 +96,29 @@ fn a_freed_span_is_joined_and_comes_last(rt: HostRuntime) -> Result<(), Fail> {
     assert!(rt; stands_at(&runs, 0, 2, 0, 3) && stands_at(&runs, 1, 1, 0, 9));
     Ok(())
 }
+
+/// Whether a search takes the front of this segment.
+fn finds(heap: &mut Heap, pages: u32, slack: u32, segment: u64) -> bool
+    requires sized { 1 ≤ pages }
+    requires small { pages + slack < 2 ^ 32 }
+{
+    match heap.search(pages, slack) {
+        Some(span) => { span.segment() == segment && span.first() == 0 && span.pages() == pages }
+        None => false,
+    }
+}
+
+#[test]
+fn lengths_from_256_on_are_one(rt: HostRuntime) -> Result<(), Fail> {
+    let alloc = rt.alloc();
+    let mut heap = Heap::new(alloc)?;
+    let span = heap.grow(alloc, 1, 255)?;
+    give_back(&mut heap, span)?;
+    let span = heap.grow(alloc, 2, 256)?;
+    give_back(&mut heap, span)?;
+    let span = heap.grow(alloc, 3, 257)?;
+    give_back(&mut heap, span)?;
+    assert!(rt; finds(&mut heap, 256, 1, 3));
+    assert!(rt; finds(&mut heap, 255, 2, 1) && finds(&mut heap, 200, 57, 2));
+    Ok(())
+}

@@ -1,66 +1,72 @@
-use Rattle.std.proofs.Common.{length, refl, ap, arith}
+use Rattle.std.proofs.Common.{◌++◌, ◌∷◌, [], refl, ◌∙◌, ap, arith}
 use Rattle.std.proofs.lemmas.List.Elements.{Contains-push}
-use Rattle.std.specs.Prelude.{map}
-use Rattle.span_heap.specs.Segment.{shown}
-use Rattle.span_heap.specs.Heap.{contents}
-use Rattle.span_heap.specs.Changes.{whole_of}
-use Rattle.span_heap.proofs.CountsAreKept.{IsKept-grown, room, pushed}
-use Rattle.span_heap.proofs.UsedPagesAreCounted.{shown_push, none_free_there, AreCounted-grown}
+use Rattle.span_heap.specs.Changes.{whole_of, segment_of}
+use Rattle.span_heap.proofs.CountsAreKept.{IsKept-grown, pushed}
+use Rattle.span_heap.proofs.HeapOverTheTable.{kept_as, none_there, whole_lies, whole_fresh}
 use Rattle.span_heap.proofs.heap.Heap.grow.Goals as goal
 
-pub make_room-requires : goal.make_room-requires
-make_room-requires c =
+pub grow-requires-clause-none_free : goal.grow-requires-clause-none_free
+grow-requires-clause-none_free c =
     let h = c.self.inside in
-    omega (arith, h.used.ok.0, room (contents (map shown h.segments.items) h.used.items h.free.items) h.pages h.free_pages c.self.invariant.0)
+    (none_there h.table c.args.segment c.self.invariant.partition (rw (← c.self.view_is) at c.requires.fresh)).1
 
-pub make_room-requires-2 : goal.make_room-requires-2
-make_room-requires-2 c =
+pub grow-requires-clause-none_used : goal.grow-requires-clause-none_used
+grow-requires-clause-none_used c =
     let h = c.self.inside in
-    omega (arith, h.free.ok.0, room (contents (map shown h.segments.items) h.used.items h.free.items) h.pages h.free_pages c.self.invariant.0)
+    (none_there h.table c.args.segment c.self.invariant.partition (rw (← c.self.view_is) at c.requires.fresh)).0
 
-pub push_reserved-requires-2 : goal.push_reserved-requires-2
-push_reserved-requires-2 c =
+pub add_used-requires-clause-lies : goal.add_used-requires-clause-lies
+add_used-requires-clause-lies c =
+    rw c.in_ok-grow.ensures.grown (whole_lies c.self.inside.table.segments c.args.segment c.args.pages c.requires.sized.0)
+
+pub add_used-requires-clause-not_free : goal.add_used-requires-clause-not_free
+add_used-requires-clause-not_free c =
     let h = c.self.inside in
-    omega (
-      arith,
-      c.make_room.new.runs.ok.0,
-      h.used.ok.0,
-      ap length c.make_room.ensures.items,
-      c.in_ok-make_room.ensures.room,
-      c.requires.sized,
-      room (contents (map shown h.segments.items) h.used.items h.free.items) h.pages h.free_pages c.self.invariant.0,
-    )
+    rw c.grow.ensures.free (whole_fresh c.args.segment 0 h.table.free (none_there h.table c.args.segment c.self.invariant.partition (rw (← c.self.view_is) at c.requires.fresh)).1)
+
+pub add_used-requires-clause-not_used : goal.add_used-requires-clause-not_used
+add_used-requires-clause-not_used c =
+    let h = c.self.inside in
+    rw c.grow.ensures.used (whole_fresh c.args.segment 0 h.table.used (none_there h.table c.args.segment c.self.invariant.partition (rw (← c.self.view_is) at c.requires.fresh)).0)
+
+pub add_used-requires-clause-small : goal.add_used-requires-clause-small
+add_used-requires-clause-small c =
+    let h = c.self.inside in
+    rw c.grow.ensures.used (omega (arith, rw (← c.self.view_is) at c.requires.small, c.self.invariant.size, c.self.invariant.whole))
+
+pub overflow_add-self : goal.overflow_add-self
+overflow_add-self c =
+    omega (arith, rw (← c.self.view_is) at c.requires.small, c.self.invariant.size)
 
 pub invariant_of-self-2 : goal.invariant_of-self-2
 invariant_of-self-2 c =
     let h = c.self.inside in
     let fresh = rw (← c.self.view_is) at c.requires.fresh in
     let small = rw (← c.self.view_is) at c.requires.small in
-    let kept = c.self.invariant.0 in (
-      rw (c.push_reserved.ensures.items, c.reserve.ensures.items, shown_push h.segments.items, c.push_reserved-2.ensures.items, c.make_room.ensures.items, c.make_room-2.ensures.items)
-          (IsKept-grown (map shown h.segments.items) h.used.items h.free.items _ c.args.segment c.args.pages h.pages h.free_pages kept fresh
-          (pushed h.used.items (whole_of c.args.segment c.args.pages)) c.requires.sized.0 (omega (arith, small, kept.size))),
-      omega (arith, c.push_reserved-2.ensures.capacity, c.in_ok-make_room.ensures.room),
-      omega (arith, c.in_ok-make_room-2.ensures.room),
-      rw (c.push_reserved.ensures.items, c.reserve.ensures.items, c.push_reserved-2.ensures.items, c.make_room.ensures.items)
-          (AreCounted-grown h.segments.items h.used.items h.free.items _ c.args.segment c.args.pages h.pages h.free_pages c.self.invariant.3 kept fresh
-          (pushed h.used.items (whole_of c.args.segment c.args.pages))),
-    )
+    let whole = whole_of c.args.segment c.args.pages in
+    kept_as c.add_used.new.self (h.table.segments ++ segment_of c.args.segment c.args.pages ∷ []) (h.table.used ++ whole ∷ []) h.table.free _ h.free_pages
+    (c.add_used.ensures.segments ∙ c.in_ok-grow.ensures.grown)
+    (c.add_used.ensures.used ∙ ap (λ u. u ++ whole ∷ []) c.grow.ensures.used)
+    (c.add_used.ensures.free ∙ c.grow.ensures.free)
+    (IsKept-grown h.table.segments h.table.used h.table.free _ c.args.segment c.args.pages h.pages h.free_pages c.self.invariant fresh (pushed h.table.used whole) c.requires.sized.0
+    (omega (arith, small, c.self.invariant.size)))
 
 pub returns-clause-grown : goal.returns-clause-grown
 returns-clause-grown c =
     let h = c.self.inside in
     let fresh = rw (← c.self.view_is) at c.requires.fresh in
     let whole = whole_of c.args.segment c.args.pages in
+    let used = c.add_used.ensures.used ∙ ap (λ u. u ++ whole ∷ []) c.grow.ensures.used in
+    let free = c.add_used.ensures.free ∙ c.grow.ensures.free in
     rw (← c.self.view_is)
     (record {
       whole = refl;
-      segments = rw (c.push_reserved.ensures.items, c.reserve.ensures.items) (shown_push h.segments.items _);
-      used = rw (c.push_reserved-2.ensures.items, c.make_room.ensures.items) (pushed h.used.items whole);
-      has = rw c.push_reserved-2.ensures.items (Contains-push c.make_room.new.runs.items whole);
-      free = c.make_room-2.ensures.items;
-      none_free = rw c.make_room-2.ensures.items (none_free_there h.segments.items h.used.items h.free.items c.args.segment h.pages h.free_pages c.self.invariant.0 fresh);
+      segments = c.add_used.ensures.segments ∙ c.in_ok-grow.ensures.grown;
+      used = rw used (pushed h.table.used whole);
+      has = rw used (Contains-push h.table.used whole);
+      free = free;
+      none_free = rw free (none_there h.table c.args.segment c.self.invariant.partition fresh).1;
     })
 
 pub returns-clause-partition : goal.returns-clause-partition
-returns-clause-partition c = (invariant_of-self-2 c).0.partition
+returns-clause-partition c = (invariant_of-self-2 c).partition

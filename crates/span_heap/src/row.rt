@@ -1,0 +1,168 @@
+//! A segment in the table of pages.
+ghost use Rattle.std.specs.Prelude.{◌≡◌, ◌+◌, ◌++◌, ◌^◌, ◌<◌, ◌≤◌, vec_len, vec_capacity, length, position, slice_index_or, IsTrue, IfOk, OnOk};
+ghost use Rattle.std.specs.List.{list_any};
+ghost use Rattle.span_heap.specs.Table.{is_row, RowStands, IsRowOf, Widens, row_places};
+
+use std::alloc::{AllocError, Global};
+use std::marker::Model;
+
+/// A segment, with the place of each of its pages.
+#[derive(Debug, Drop)]
+pub(crate) struct PageRow {
+    id: u64,
+    places: Vec<u32>,
+}
+
+impl Model for PageRow {
+    ghost use Rattle.span_heap.specs.Table.{Row};
+
+    ghost Value = { Row };
+
+    ghost view = { λ r. record { id = r.id; places = r.places.items } };
+}
+
+impl PageRow {
+    /// A segment whose pages have these places.
+    pub(crate) fn new(id: u64, places: Vec<u32>) -> PageRow
+        ensures { result ≡ record { id = id; places = places.items } }
+    {
+        PageRow { id, places }
+    }
+
+    /// The number of the segment.
+    pub(crate) fn id(&self) -> u64
+        ensures { result ≡ self.now.id }
+    {
+        self.id
+    }
+
+    /// How many pages it has.
+    pub(crate) fn len(&self) -> usize
+        ensures { result ≡ length self.now.places }
+    {
+        self.places.len()
+    }
+
+    /// The place of a page.
+    pub(crate) fn place(&self, page: u32) -> u32
+        requires { page < length self.now.places }
+        ensures { result ≡ slice_index_or self.now.places page 0 }
+    {
+        self.places[page as usize]
+    }
+
+    /// Gives the places of its pages to those that no page has.
+    pub(crate) fn give_places(self, spare: &mut Vec<u32>)
+        requires { vec_len spare.old + length self.places ≤ vec_capacity spare.old }
+        ensures items { spare.new.items ≡ spare.old.items ++ self.places }
+        ensures capacity { vec_capacity spare.new ≡ vec_capacity spare.old }
+    {
+        for place in self.places.as_slice() {
+            spare.push_reserved(*place);
+        }
+    }
+}
+
+/// Where the row of this number stands, if one is there. It is found at once where the numbers rise
+/// by one, by halves where they rise, and else by a walk.
+pub(crate) fn find_row(rows: &[PageRow], id: u64) -> Option<usize>
+    ensures { IsRowOf rows.now id result }
+{
+    let straight = straight_row(rows, id);
+    if straight < rows.len() && rows[straight].id() == id {
+        return Some(straight);
+    }
+    let near = near_row(rows, id);
+    if near < rows.len() && rows[near].id() == id {
+        return Some(near);
+    }
+    first_row(rows, id)
+}
+
+/// Where the row of this number stands if the numbers rise by one.
+fn straight_row(rows: &[PageRow], id: u64) -> usize {
+    match rows.first() {
+        Some(first) => id.saturating_sub(first.id()) as usize,
+        None => 0,
+    }
+}
+
+/// Where the first row of this number stands, by a walk.
+fn first_row(rows: &[PageRow], id: u64) -> Option<usize>
+    ensures { result ≡ position (is_row id) rows.now }
+{
+    rows.iter().position(|row| row.id() == id)
+}
+
+/// Where the row of this number stands if the numbers rise.
+fn near_row(rows: &[PageRow], id: u64) -> usize {
+    let mut low = 0;
+    let mut high = rows.len();
+    while low < high {
+        let middle = low + (high - low) / 2;
+        if rows[middle].id() < id {
+            low = middle + 1;
+        } else {
+            high = middle;
+        }
+    }
+    low
+}
+
+/// Where the row of this number stands.
+pub(crate) fn row_of(rows: &[PageRow], id: u64) -> usize
+    requires { IsTrue (list_any (is_row id) rows.now) }
+    ensures { RowStands rows.now id result }
+{
+    match find_row(rows, id) {
+        Some(at) => at,
+        None => 0,
+    }
+}
+
+/// The places of a new segment: the spare ones from `keep` on, and `fresh` new ones from `size` on.
+pub(crate) fn new_places(
+    alloc: Global,
+    spare: &[u32],
+    keep: usize,
+    size: u32,
+    fresh: u32,
+) -> Result<Vec<u32>, AllocError>
+    requires within { keep ≤ length spare.now }
+    requires small { size + fresh < 2 ^ 32 }
+    ensures { IfOk result (λ places. places.items ≡ row_places spare.now keep size fresh) }
+{
+    let mut places = Vec::from_slice(alloc, &spare[keep..])?;
+    for place in size..size + fresh {
+        places.push(place)?;
+    }
+    Ok(places)
+}
+
+/// Makes marks for `total` places, where there are fewer. New marks are 0.
+fn widen(marks: &mut Vec<u32>, total: usize) -> Result<(), AllocError>
+    ensures widens { Widens marks.old.items marks.new.items }
+    ensures reach { OnOk result (total ≤ length marks.new.items) }
+{
+    let reach = total.max(marks.len());
+    marks.resize(reach, 0)
+}
+
+/// Makes three sets of marks for `total` places.
+pub(crate) fn widen_all(
+    one: &mut Vec<u32>,
+    two: &mut Vec<u32>,
+    three: &mut Vec<u32>,
+    total: usize,
+) -> Result<(), AllocError>
+    ensures one { Widens one.old.items one.new.items }
+    ensures two { Widens two.old.items two.new.items }
+    ensures three { Widens three.old.items three.new.items }
+    ensures reach { OnOk result (total ≤ length one.new.items) }
+    ensures reach_two { OnOk result (total ≤ length two.new.items) }
+    ensures reach_three { OnOk result (total ≤ length three.new.items) }
+{
+    widen(one, total)?;
+    widen(two, total)?;
+    widen(three, total)
+}
