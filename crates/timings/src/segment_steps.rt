@@ -27,7 +27,7 @@ pub struct Times {
 
 impl Times {
     /// No time was measured yet.
-    fn none() -> Times {
+    pub(crate) fn none() -> Times {
         Times {
             ours: u128::MAX,
             plain: u128::MAX,
@@ -35,7 +35,7 @@ impl Times {
     }
 
     /// With the times of one more run.
-    fn with(self, ours: Duration, plain: Duration) -> Times {
+    pub(crate) fn with(self, ours: Duration, plain: Duration) -> Times {
         Times {
             ours: self.ours.min(ours.as_nanos() / 1000),
             plain: self.plain.min(plain.as_nanos() / 1000),
