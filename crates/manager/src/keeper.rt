@@ -94,7 +94,8 @@ impl Keeper {
         ensures ok { IfOk result (λ reduced. (kept : ℕ) → Reduces limit now reduced
             (managed kept self.old.book self.old.order self.old.pool)
             (managed kept self.new.book self.new.order self.new.pool)) }
-        ensures err { OnErr result ((kept : ℕ) → managed kept self.new.book self.new.order self.new.pool
+        ensures err { OnErr result ((kept : ℕ)
+            → managed kept self.new.book self.new.order self.new.pool
             ≡ managed kept self.old.book self.old.order self.old.pool) }
     {
         self.book.reserve(alloc, self.promised + 1)?;
@@ -105,7 +106,8 @@ impl Keeper {
     pub(crate) fn fit(&mut self, limit: u64, pages: u32, now: u64)
         requires moment { IsMoment now }
         requires spare { self.old.promised + 3 ≤ self.old.book.spare }
-        ensures makes { MakesRoom pages now (managed limit self.old.book self.old.order self.old.pool)
+        ensures makes { MakesRoom pages now
+            (managed limit self.old.book self.old.order self.old.pool)
             (managed limit self.new.book self.new.order self.new.pool) }
         ensures room { has_room self.new.book.entries (room limit pages) ≡ true }
         ensures spare { self.new.promised + 2 ≤ self.new.book.spare }

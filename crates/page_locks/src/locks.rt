@@ -24,7 +24,8 @@ impl Model for PageLocks {
 
     ghost view = { λ l. l.locked.items };
 
-    ghost invariant = { λ l. (l.count ≡ locked_count l.locked.items) × (vec_len l.locked < 2 ^ 32) };
+    ghost invariant = { λ l.
+        (l.count ≡ locked_count l.locked.items) × (vec_len l.locked < 2 ^ 32) };
 }
 
 impl PageLocks {
