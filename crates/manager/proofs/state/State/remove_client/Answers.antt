@@ -1,4 +1,0 @@
-use Rattle.manager.proofs.state.State.remove_client.Goals as goal
-
-pub returns : goal.returns
-returns c = rw (← c.self.view_is) (c.remove.ensures c.self.inside.limit)
