@@ -10,7 +10,7 @@ pub struct ReplayCfg {
 }
 
 impl Default for ReplayCfg {
-    ghost use Rattle.replay_run.specs.Config.{HoldsDefaults};
+    ghost use Rattle.replay_plain.specs.Config.{HoldsDefaults};
 
     ghost is_default = { HoldsDefaults };
 

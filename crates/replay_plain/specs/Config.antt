@@ -1,6 +1,6 @@
 -- The settings of a replay.
 use Rattle.std.specs.Prelude.{◌≡◌}
-use Rattle.replay_run.specs.declared.config.ReplayCfg.{ReplayCfg}
+use Rattle.replay_plain.specs.declared.config.ReplayCfg.{ReplayCfg}
 
 -- the settings of a replay whose words name none
 abbrev pub default_settings : ReplayCfg
