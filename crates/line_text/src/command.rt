@@ -43,6 +43,35 @@ pub enum Command {
         id: u64,
         at: u64,
     },
+    /// Gives a segment back.
+    Back {
+        id: u64,
+    },
+    /// Reduces the granted pages to a limit, at a moment.
+    Reduce {
+        limit: u64,
+        at: u64,
+    },
+    /// Reduces the granted pages to the manager's limit, at a moment.
+    Enforce {
+        at: u64,
+    },
+    /// Tells the manager of want of memory, critical or moderate, at a moment.
+    Pressure {
+        critical: bool,
+        at: u64,
+    },
+    /// Sets the manager's limit, from 0 to 1,048,576 pages, and reduces to it, at a moment.
+    Limit {
+        limit: u64,
+        at: u64,
+    },
+    /// Removes a client.
+    Remove {
+        client: u64,
+    },
+    /// Asks for the number of granted pages.
+    Granted,
 }
 
 impl Command {
