@@ -25,7 +25,7 @@ after_grant state client pages = after_event state (next_grant state client page
 abbrev pub numbers_of : ReplayState → ℕ → List ℕ
 numbers_of state client =
     filter (λ id. client_of (answered state.events) id == client && plain state.events id)
-        (range_with_len 1 (grants_of state))
+    (range_with_len 1 (grants_of state))
 
 -- the events that give back each segment of a client
 abbrev pub returns_of : ReplayState → ℕ → List Event

@@ -1,5 +1,5 @@
 -- A reduction of the granted pages, where nothing happens between its tries.
-use Rattle.std.specs.Prelude.{ℕ, ◌+◌, ◌*◌, nat_lt, zero, suc, if◌then◌else◌, List, [], ◌∷◌, ◌++◌, length, Option, option_map, unwrap_or}
+use Rattle.std.specs.Prelude.{ℕ, ◌*◌, nat_lt, zero, suc, if◌then◌else◌, List, [], ◌∷◌, ◌++◌, length, Option, option_map, unwrap_or}
 use Rattle.machine.specs.declared.event.Event.{Event}
 use Rattle.machine.specs.declared.event.Event.TheVariants as event
 use Rattle.machine.specs.Answers.{answered, granted}
@@ -20,8 +20,8 @@ tries_within zero limit now events = []
 tries_within (suc most) limit now events =
     if has_ended limit now (live_segments events) then []
     else unwrap_or (option_map (λ c. event.Try c.id now
-        ∷ tries_within most limit now (events ++ event.Try c.id now ∷ []))
-        (least (live_segments events))) []
+    ∷ tries_within most limit now (events ++ event.Try c.id now ∷ []))
+    (least (live_segments events))) []
 
 -- how many tries a reduction makes at most: two for each live segment, since a second one finds
 -- what the first one told
