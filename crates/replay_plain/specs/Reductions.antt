@@ -2,7 +2,7 @@
 use Rattle.std.specs.Prelude.{ℕ, ◌*◌, nat_lt, zero, suc, if◌then◌else◌, List, [], ◌∷◌, ◌++◌, length, Option, option_map, unwrap_or}
 use Rattle.machine.specs.declared.event.Event.{Event}
 use Rattle.machine.specs.declared.event.Event.TheVariants as event
-use Rattle.machine.specs.Answers.{answered, granted}
+use Rattle.machine.specs.Answers.{answered, granted, granted_numbers}
 use Rattle.machine.specs.Reduction.{Candidate, use_of, least, has_ended, candidates}
 use Rattle.discard_book.specs.declared.entry.Entry.{Entry}
 use Rattle.discard_book.specs.declared.entry.Entry.TheVariants as entry
@@ -23,10 +23,10 @@ tries_within (suc most) limit now events =
     ∷ tries_within most limit now (events ++ event.Try c.id now ∷ []))
     (least (live_segments events))) []
 
--- how many tries a reduction makes at most: two for each live segment, since a second one finds
--- what the first one told
+-- how many tries a reduction makes at most: two for each segment that was granted, since a second
+-- one finds what the first one told
 abbrev pub most_tries : List Event → ℕ
-most_tries events = 2 * length (live_segments events)
+most_tries events = 2 * length (granted_numbers (answered events))
 
 -- the tries of a reduction to a limit at a moment after these events, where nothing else happens
 abbrev pub reduction : ℕ → ℕ → List Event → List Event

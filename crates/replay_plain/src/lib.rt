@@ -2,6 +2,8 @@
 //! Runs the commands of a script on plain segments: the reply to each, and the book that they make.
 
 mod config;
+mod known;
+mod least;
 mod reply;
 
 pub use config::ReplayCfg;
