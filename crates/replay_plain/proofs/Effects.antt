@@ -13,18 +13,20 @@ use Rattle.replay_plain.specs.declared.known.KnownSegment.{KnownSegment}
 use Rattle.replay_plain.specs.State.{is_grant}
 use Rattle.replay_plain.specs.Known.{Tells}
 
-client_other : (h : History) (e : Event) (a : Answer) (s : ℕ) → (number_of e == s) ≡ false → client_of ((e, a) ∷ h) s ≡ client_of h s
+pub client_other : (h : History) (e : Event) (a : Answer) (s : ℕ) → (number_of e == s) ≡ false → client_of ((e, a) ∷ h) s ≡ client_of h s
 unfolding client_of
 client_other h (Grant id client pages) (Granted drawn) s ne = ap (λ b. cond b client (client_of h s)) ne
 client_other h _ _ s ne = refl
 
+pub plain_other : (h : History) (e : Event) (a : Answer) (s : ℕ) → (number_of e == s) ≡ false → is_plain ((e, a) ∷ h) s ≡ is_plain h s
+plain_other h e a s ne =
+    ap (λ b. b && not (is_ended ((e, a) ∷ h) s)) (begun_other h e a s ne) ∙ ap (λ b. is_begun h s && not b) (ended_other h e a s ne)
+
 -- an event tells nothing of another number
 pub tells_other : (h : History) (e : Event) (a : Answer) (s : ℕ) (kept : KnownSegment) → (number_of e == s) ≡ false → Tells h s kept → Tells ((e, a) ∷ h) s kept
 tells_other h e a s kept ne w =
-    let begun = begun_other h e a s ne in
-    let ended = ended_other h e a s ne in
     let gone = gone_other h e a s ne in
-    let plain = ap (λ b. b && not (is_ended ((e, a) ∷ h) s)) begun ∙ ap (λ b. is_begun h s && not b) ended in
+    let plain = plain_other h e a s ne in
     record {
       client = w.client ∙ sym (client_other h e a s ne);
       pages = w.pages ∙ sym (pages_other h e a s ne);

@@ -29,7 +29,7 @@ pushed events e a is = answered_push [] events e ∙ ap (λ x. (e, x) ∷ answer
 counted_more : (events : List Event) (e : Event) → count_by is_grant (events ++ e ∷ []) ≡ count_by is_grant events + cond {A = ℕ} (is_grant e) 1 0
 counted_more events e = sum_by-append (λ x. cond {A = ℕ} (is_grant x) 1 0) events (e ∷ []) ∙ ap (λ n. count_by is_grant events + n) (zero-add (cond {A = ℕ} (is_grant e) 1 0))
 
-no_more : (events : List Event) (e : Event) → is_grant e ≡ false → count_by is_grant (events ++ e ∷ []) ≡ count_by is_grant events
+pub no_more : (events : List Event) (e : Event) → is_grant e ≡ false → count_by is_grant (events ++ e ∷ []) ≡ count_by is_grant events
 no_more events e is =
     let more = counted_more events e in
     let none : cond {A = ℕ} (is_grant e) 1 0 ≡ 0 = ap {B = ℕ} (λ b. cond b 1 0) is in

@@ -2,3 +2,6 @@ pub mod Places
 pub mod Effects
 pub mod Following
 pub mod Seeking
+pub mod Standing
+pub mod Tries
+pub mod Returns

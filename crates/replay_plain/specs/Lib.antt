@@ -3,6 +3,7 @@ pub mod State
 pub mod Reductions
 pub mod Least
 pub mod Known
+pub mod Run
 pub mod Commands
 pub mod Replies
 pub mod Records

@@ -4,9 +4,13 @@
 mod config;
 mod known;
 mod least;
+mod reducing;
 mod reply;
+mod run;
+mod steps;
 
 pub use config::ReplayCfg;
 pub use reply::{
     push_answer, push_back_answer, push_granted, push_hex, push_reduced, push_removed,
 };
+pub use run::PlainRun;
