@@ -5,3 +5,4 @@ pub mod Seeking
 pub mod Standing
 pub mod Tries
 pub mod Returns
+pub mod Chances

@@ -3,6 +3,7 @@
 
 mod config;
 mod known;
+mod laws;
 mod least;
 mod reducing;
 mod reply;
@@ -10,6 +11,7 @@ mod run;
 mod steps;
 
 pub use config::ReplayCfg;
+pub use laws::law_reductions_end;
 pub use reply::{
     push_answer, push_back_answer, push_granted, push_hex, push_reduced, push_removed,
 };

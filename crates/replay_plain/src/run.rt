@@ -109,10 +109,7 @@ impl PlainRun {
                 let limit = if *critical { 0 } else { self.limit / 2 };
                 self.reduced(alloc, limit, *at, reply)
             }
-            Command::Limit { limit, at } => {
-                self.limit = *limit;
-                self.reduced(alloc, *limit, *at, reply)
-            }
+            Command::Limit { limit, at } => self.limited(alloc, *limit, *at, reply),
             Command::Remove { client } => self.remove(alloc, *client as u32, reply),
             Command::Granted => push_granted(reply, self.known.pages()),
         }
@@ -150,6 +147,33 @@ impl PlainRun {
         let before = self.entries.len();
         let least = self.reduce(alloc, limit, now)?;
         push_reduced(reply, self.known.pages(), least, &self.entries[before..])
+    }
+
+    /// The reply to a new limit, to which a reduction is made.
+    fn limited(
+        &mut self,
+        alloc: Global,
+        limit: u64,
+        now: u64,
+        reply: &mut Vec<u8>,
+    ) -> Result<(), NoMemory>
+        ensures reply { OnOk result ((state : ReplayState) → RunStandsFor self.old state
+            → reply.new.items ≡ reply.old.items
+            ++ reduced_text state (after_reduction (record state { limit = limit }) limit now)) }
+        ensures state { OnOk result ((state : ReplayState) → RunStandsFor self.old state
+            → RunStandsFor self.new (after_reduction (record state { limit = limit }) limit now)) }
+    {
+        self.set_limit(limit);
+        self.reduced(alloc, limit, now, reply)?;
+        Ok(())
+    }
+
+    /// The limit from now on.
+    fn set_limit(&mut self, limit: u64)
+        ensures { (state : ReplayState) → RunStandsFor self.old state
+            → RunStandsFor self.new (record state { limit = limit }) }
+    {
+        self.limit = limit;
     }
 
     /// The reply to the removal of a client, whose segments are given back.
