@@ -16,3 +16,6 @@ pub use reply::{
     push_answer, push_back_answer, push_granted, push_hex, push_reduced, push_removed,
 };
 pub use run::PlainRun;
+
+#[cfg(test)]
+mod tests;
