@@ -79,6 +79,7 @@ shows_other h e a s kept ne w = record {
 pub unknown_other : (h : History) (e : Event) (a : Answer) (s : ℕ) → (number_of e == s) ≡ false → IsUnknown h s → IsUnknown ((e, a) ∷ h) s
 unknown_other h e a s ne w = record {
   begun = begun_other h e a s ne ∙ w.begun;
+  pages = pages_other h e a s ne ∙ w.pages;
   held = λ page. held_other h e a s page ne ∙ w.held page;
   stamp = stamp_other h e a s ne ∙ w.stamp;
   known = known_other h e a s ne ∙ w.known;
@@ -93,5 +94,5 @@ shows_misuse h _ s kept w = record { begun = w.begun; pages = w.pages; held = w.
 
 pub unknown_misuse : (h : History) (e : Event) (s : ℕ) → IsUnknown h s → IsUnknown ((e, Misuse) ∷ h) s
 unfolding is_begun pages_of is_ended is_gone is_held stamp_of known_of left_of
-unknown_misuse h (Grant id client pages) s w = record { begun = w.begun; held = w.held; stamp = w.stamp; known = w.known; gone = w.gone; ended = w.ended }
-unknown_misuse h _ s w = record { begun = w.begun; held = w.held; stamp = w.stamp; known = w.known; gone = w.gone; ended = w.ended }
+unknown_misuse h (Grant id client pages) s w = record { begun = w.begun; pages = w.pages; held = w.held; stamp = w.stamp; known = w.known; gone = w.gone; ended = w.ended }
+unknown_misuse h _ s w = record { begun = w.begun; pages = w.pages; held = w.held; stamp = w.stamp; known = w.known; gone = w.gone; ended = w.ended }

@@ -23,6 +23,7 @@ pub record Shows (h : History) (s : ℕ) (kept : Kept) : Type 0 where
 -- nothing happened to a number that was not granted
 pub record IsUnknown (h : History) (s : ℕ) : Type 0 where
   pub begun : is_begun h s ≡ false
+  pub pages : pages_of h s ≡ 0
   pub held : (page : ℕ) → is_held h s page ≡ false
   pub stamp : stamp_of h s ≡ 0
   pub known : known_of h s ≡ None
