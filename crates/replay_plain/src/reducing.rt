@@ -13,8 +13,9 @@ use units::NoMemory;
 impl PlainRun {
     /// Makes room for a grant of these pages.
     pub(crate) fn make_room(&mut self, alloc: Global, pages: u32, now: u64) -> Result<(), NoMemory>
-        ensures { OnOk result ((state : ReplayState) → RunStandsFor self.old state
+        ensures state { OnOk result ((state : ReplayState) → RunStandsFor self.old state
             → RunStandsFor self.new (with_room state pages now)) }
+        ensures more { OnOk result (vec_len self.old.entries ≤ vec_len self.new.entries) }
     {
         let room = self.limit.saturating_sub(u64::from(pages));
         if self.known.pages() > u128::from(room) {

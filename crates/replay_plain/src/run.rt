@@ -1,4 +1,4 @@
-ghost use Rattle.std.specs.Prelude.{◌≡◌, ◌++◌, OnOk, IfOk};
+ghost use Rattle.std.specs.Prelude.{◌≡◌, ◌≤◌, ◌++◌, vec_len, OnOk, IfOk};
 ghost use Rattle.line_text.specs.Ranges.{IsByteCount, IsInRange};
 ghost use Rattle.replay_plain.specs.State.{ReplayState, first_state, after_events};
 ghost use Rattle.replay_plain.specs.Reductions.{after_reduction};
@@ -48,7 +48,8 @@ impl PlainRun {
 
     /// The entries of its book, the oldest first.
     pub fn entries(&self) -> &[Entry]
-        ensures { (state : ReplayState) → RunStandsFor self.now state
+        ensures items { result.now ≡ self.now.entries.items }
+        ensures state { (state : ReplayState) → RunStandsFor self.now state
             → result.now ≡ state.entries }
     {
         self.entries.as_slice()
@@ -66,6 +67,7 @@ impl PlainRun {
             → reply.new.items ≡ reply.old.items ++ reply_of state command.now) }
         ensures state { OnOk result ((state : ReplayState) → RunStandsFor self.old state
             → RunStandsFor self.new (state_after state command.now)) }
+        ensures more { OnOk result (vec_len self.old.entries ≤ vec_len self.new.entries) }
     {
         match command {
             Command::Grant { client, pages, at } => {
@@ -143,6 +145,7 @@ impl PlainRun {
             ≡ reply.old.items ++ reduced_text state (after_reduction state limit now)) }
         ensures state { OnOk result ((state : ReplayState) → RunStandsFor self.old state
             → RunStandsFor self.new (after_reduction state limit now)) }
+        ensures more { OnOk result (vec_len self.old.entries ≤ vec_len self.new.entries) }
     {
         let before = self.entries.len();
         let least = self.reduce(alloc, limit, now)?;
@@ -162,6 +165,7 @@ impl PlainRun {
             ++ reduced_text state (after_reduction (record state { limit = limit }) limit now)) }
         ensures state { OnOk result ((state : ReplayState) → RunStandsFor self.old state
             → RunStandsFor self.new (after_reduction (record state { limit = limit }) limit now)) }
+        ensures more { OnOk result (vec_len self.old.entries ≤ vec_len self.new.entries) }
     {
         self.set_limit(limit);
         self.reduced(alloc, limit, now, reply)?;
@@ -170,8 +174,9 @@ impl PlainRun {
 
     /// The limit from now on.
     fn set_limit(&mut self, limit: u64)
-        ensures { (state : ReplayState) → RunStandsFor self.old state
+        ensures state { (state : ReplayState) → RunStandsFor self.old state
             → RunStandsFor self.new (record state { limit = limit }) }
+        ensures entries { self.new.entries ≡ self.old.entries }
     {
         self.limit = limit;
     }
@@ -183,6 +188,7 @@ impl PlainRun {
             ≡ reply.old.items ++ removed_text state (after_events state (returns_of state client))) }
         ensures state { OnOk result ((state : ReplayState) → RunStandsFor self.old state
             → RunStandsFor self.new (after_events state (returns_of state client))) }
+        ensures more { OnOk result (vec_len self.old.entries ≤ vec_len self.new.entries) }
     {
         let before = self.entries.len();
         self.give_back_all(alloc, client)?;

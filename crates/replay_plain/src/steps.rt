@@ -21,6 +21,7 @@ impl PlainRun {
             → a ≡ answer state.events event.now) }
         ensures state { OnOk result ((state : ReplayState) → RunStandsFor self.old state
             → RunStandsFor self.new (after_event state event.now)) }
+        ensures more { OnOk result (vec_len self.old.entries ≤ vec_len self.new.entries) }
     {
         let answer = self.segments.step(alloc, event)?;
         Ok(answer)
@@ -38,6 +39,7 @@ impl PlainRun {
             → a ≡ answer state.events (event.Write id place bytes.now)) }
         ensures state { OnOk result ((state : ReplayState) → RunStandsFor self.old state
             → RunStandsFor self.new (after_event state (event.Write id place bytes.now))) }
+        ensures more { OnOk result (vec_len self.old.entries ≤ vec_len self.new.entries) }
     {
         let mut copy = Vec::new(alloc);
         copy.extend_from_slice(bytes.as_slice())?;
@@ -59,6 +61,7 @@ impl PlainRun {
             → a ≡ answer state.events (next_grant state client pages)) }
         ensures state { OnOk result ((state : ReplayState) → RunStandsFor self.old state
             → RunStandsFor self.new (after_event state (next_grant state client pages))) }
+        ensures more { OnOk result (vec_len self.old.entries ≤ vec_len self.new.entries) }
     {
         let id = self.known.next();
         let answer = self.segments.step(alloc, &Event::Grant { id, client, pages })?;

@@ -26,9 +26,9 @@ fn runs(alloc: Global) -> Result<bool, Fail> {
     run.run(alloc, &Command::Remove { client: 1 }, &mut text)?;
     let book = book_text(alloc, run.entries())?;
     Ok(
-        text.as_slice() == b"segment 1segment 2idle 5reduced 1 9 1removed 1"
+        text.as_slice() == b"segment 1segment 2idle 5reduced 1 9 1removed 1".as_slice()
             && book.as_slice()
-                == b"grant 1 1 1 1048576\ngrant 2 1 1 1048576\npurge 1 5\nreduced 0 9 1 9\nback 2\n",
+                == b"grant 1 1 1 1048576\ngrant 2 1 1 1048576\npurge 1 5\nreduced 0 9 1 9\nback 2\n".as_slice(),
     )
 }
 
