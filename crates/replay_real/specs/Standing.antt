@@ -1,0 +1,43 @@
+-- The state of a replay that a run on real segments stands for, and what a command makes of it.
+use Rattle.std.specs.Prelude.{◌≡◌, ℕ, ◌+◌, ◌==◌, false, List, ◌++◌, length}
+use Rattle.std.specs.List.{list_any}
+use Rattle.machine.specs.Answers.{answered, granted as granted_by_events}
+use Rattle.machine.specs.History.{client_of}
+use Rattle.discard_book.specs.Live.{grants, granted as granted_by_entries}
+use Rattle.discard_book.specs.declared.entry.Entry.{Entry}
+use Rattle.manager_state.specs.Managed.{Managed}
+use Rattle.replay_plain.specs.State.{ReplayState, grants_of}
+use Rattle.replay_real.specs.declared.owners.Given.{Given}
+use Rattle.replay_real.specs.Owners.{given_at, ShowsEach}
+
+-- A manager's state and a table of owners stand for a state of a replay. The book's entries and
+-- the limit are those of the state. The numbers that the book drew are those of the Grants, and
+-- the table has one place more. Granted pages are told the same. Each granted segment is with the
+-- client that it was granted to; it is plain, and its owner keeps what the events made of it.
+pub record StandsFor (manager : Managed) (table : List Given) (state : ReplayState) : Type 0 where
+  pub entries : manager.entries ≡ state.entries
+  pub limit : manager.limit ≡ state.limit
+  pub drawn : grants state.entries ≡ grants_of state
+  pub places : length table ≡ grants_of state + 1
+  pub granted : granted_by_entries state.entries ≡ granted_by_events state.events
+  pub clients : (id : ℕ) → (given_at table id).client ≡ client_of (answered state.events) id
+  pub owners : ShowsEach (answered state.events) table
+
+-- a command was answered with these words, and the run stands for this state after it
+pub record Follows (manager : Managed) (table : List Given) (before after : List ℕ) (said : List ℕ) (state : ReplayState) : Type 0 where
+  pub reply : after ≡ before ++ said
+  pub state : StandsFor manager table state
+
+-- these bytes have no LF
+abbrev pub IsOneLine : List ℕ → Type 0
+IsOneLine bytes = list_any (λ byte. byte == 10) bytes ≡ false
+
+-- some words without LF were appended
+pub record AppendsWords (before after : List ℕ) : Type 0 where
+  pub words : List ℕ
+  pub appended : after ≡ before ++ words
+  pub line : IsOneLine words
+
+-- entries were added at the end of the book, or none
+abbrev pub Grows : List Entry → List Entry → Type 0
+Grows before after = (more : List Entry) × (after ≡ before ++ more)
