@@ -1,9 +1,11 @@
 -- What is seen of the owner of a plain segment: its side and the locks of its pages together.
-use Rattle.std.specs.Prelude.{◌≡◌, ℕ, ◌<◌, Bool, true, false, List, length, None}
+use Rattle.std.specs.Prelude.{◌≡◌, ◌≢◌, ℕ, ◌<◌, Bool, true, false, List, length, None}
 use Rattle.machine.specs.Kept.{Kept}
 use Rattle.segment.specs.Owned.{Owned}
 use Rattle.segment.specs.declared.owner.Phase.{Phase}
 use Rattle.segment.specs.declared.owner.Phase.TheVariants.{Held, Idle, Gone}
+use Rattle.segment.specs.declared.owner.Lock.{Lock}
+use Rattle.segment.specs.declared.owner.Lock.TheVariants as lock
 use Rattle.page_locks.specs.Locks.{locked_count}
 
 -- the bytes that its owner left in a segment: those in its hand while it holds
@@ -41,3 +43,12 @@ LocksIn Gone count = count ≡ 0
 pub record IsOwner (side : Owned) (locks : List Bool) : Type 0 where
   pub holds : LocksIn side.phase (locked_count locks)
   pub sized : length locks ≡ side.pages
+
+-- A side was made to hold. It holds the bytes left in it, and had not found its segment purged; or
+-- it did not hold and is gone. Only its steps may have changed besides.
+abbrev pub AfterHold : Lock → Owned → Owned → Type 0
+AfterHold lock.Held old new =
+    (is_lost old.phase ≡ false)
+    × (new ≡ record old { phase = Held; bytes = left_in old.phase old; steps = new.steps })
+AfterHold lock.Gone old new =
+    (old.phase ≢ Held) × (new ≡ record old { phase = Gone; steps = new.steps })

@@ -8,6 +8,7 @@ ghost use Rattle.machine.specs.Answers.{answer_of, is_live, bytes_held};
 ghost use Rattle.machine.specs.Segments.{Shows, IsUnknown};
 ghost use Rattle.segment.specs.Owned.{new_owner, IsGranted};
 ghost use Rattle.page_locks.specs.Locks.{locked_count, is_page_locked};
+ghost use Rattle.replay_real.specs.Owner.{AfterHold};
 
 use block_pool::Block;
 use machine::Answer;
@@ -61,13 +62,13 @@ impl Owner {
         if !self.locks.is_free(first, count) {
             return Answer::Misuse;
         }
-        if self.side.phase() != Phase::Held {
-            if self.side.lock() == Lock::Gone {
-                return Answer::Gone;
+        match hold(&mut self.side) {
+            Lock::Gone => Answer::Gone,
+            Lock::Held => {
+                self.locks.lock(first, count);
+                Answer::Held
             }
         }
-        self.locks.lock(first, count);
-        Answer::Held
     }
 
     /// Unlocks a range of pages at a moment. Where no page stays locked, the side makes its step.
@@ -135,6 +136,16 @@ impl Owner {
             GiveUp::Whole(block) => Some(block),
             GiveUp::Gone(_) => None,
         }
+    }
+}
+
+/// Makes a side hold, by a step where it does not hold yet; or it is gone.
+fn hold(side: &mut OwnerSide) -> Lock
+    ensures { AfterHold result side.old side.new }
+{
+    match side.phase() {
+        Phase::Held => Lock::Held,
+        Phase::Idle | Phase::Gone => side.lock(),
     }
 }
 
