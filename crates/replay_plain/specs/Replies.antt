@@ -1,5 +1,5 @@
 -- The reply to each command of a script.
-use Rattle.std.specs.Prelude.{ℕ, if◌then◌else◌, List, [], ◌++◌, take, drop, length, codes, decimal}
+use Rattle.std.specs.Prelude.{ℕ, if◌then◌else◌, List, [], ◌++◌, Option, take, drop, length, codes, decimal}
 use Rattle.std.specs.List.{flat_map}
 use Rattle.hex.specs.Hex.{encode_lower}
 use Rattle.machine.specs.declared.event.Event.{Event}
@@ -55,20 +55,32 @@ abbrev pub purged_text : Entry → List ℕ
 purged_text (entry.Purge id known) = spaced id
 purged_text other = []
 
--- The reply to a reduction, by the state before it and the one after it: the granted pages after
--- it, the least known use or a dash, and the number of each segment that it purged, in order.
+-- the words of a reduction that added these entries: the granted pages after it, the least known
+-- use or a dash, and the number of each segment that it purged, in order
+abbrev pub reduced_words : ℕ → Option ℕ → List Entry → List ℕ
+reduced_words after least entries =
+    codes "reduced" ++ spaced after ++ spaced_or_dash least ++ flat_map purged_text entries
+
+-- the words of the removal of a client, by how many segments are counted off
+abbrev pub removed_words : ℕ → List ℕ
+removed_words count = codes "removed" ++ spaced count
+
+-- the words of the answer to the question for the granted pages
+abbrev pub granted_words : ℕ → List ℕ
+granted_words pages = codes "granted" ++ spaced pages
+
+-- the reply to a reduction, by the state before it and the one after it
 abbrev pub reduced_text : ReplayState → ReplayState → List ℕ
 reduced_text before after =
-    codes "reduced" ++ spaced (granted after.events) ++ spaced_or_dash (least_use after.events)
-    ++ flat_map purged_text (added_since before after)
+    reduced_words (granted after.events) (least_use after.events) (added_since before after)
 
--- the reply to the removal of a client: how many segments are counted off, each by an entry
+-- the reply to the removal of a client: each segment that is counted off adds an entry
 abbrev pub removed_text : ReplayState → ReplayState → List ℕ
-removed_text before after = codes "removed" ++ spaced (length (added_since before after))
+removed_text before after = removed_words (length (added_since before after))
 
 -- the reply to the question for the granted pages
 abbrev pub granted_text : ReplayState → List ℕ
-granted_text state = codes "granted" ++ spaced (granted state.events)
+granted_text state = granted_words (granted state.events)
 
 -- the reply to a grant, for which there is room
 abbrev pub grant_text : ReplayState → ℕ → ℕ → List ℕ
