@@ -1,1 +1,2 @@
 pub mod OwnerSteps
+pub mod TableSteps
