@@ -1,2 +1,5 @@
 pub mod OwnerSteps
 pub mod TableSteps
+pub mod OneLine
+pub mod BookGrows
+pub mod Following

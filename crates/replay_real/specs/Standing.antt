@@ -8,6 +8,7 @@ use Rattle.discard_book.specs.declared.entry.Entry.{Entry}
 use Rattle.manager_state.specs.Managed.{Managed}
 use Rattle.replay_plain.specs.State.{ReplayState, grants_of}
 use Rattle.replay_real.specs.declared.owners.Given.{Given}
+use Rattle.replay_real.specs.declared.run.RealRun.{RealRun}
 use Rattle.replay_real.specs.Owners.{given_at, ShowsEach}
 
 -- A manager's state and a table of owners stand for a state of a replay. The book's entries and
@@ -23,10 +24,14 @@ pub record StandsFor (manager : Managed) (table : List Given) (state : ReplaySta
   pub clients : (id : ℕ) → (given_at table id).client ≡ client_of (answered state.events) id
   pub owners : ShowsEach (answered state.events) table
 
+-- the run stands for this state
+abbrev pub RealStandsFor : RealRun → ReplayState → Type 0
+RealStandsFor run state = StandsFor run.state run.owners state
+
 -- a command was answered with these words, and the run stands for this state after it
-pub record Follows (manager : Managed) (table : List Given) (before after : List ℕ) (said : List ℕ) (state : ReplayState) : Type 0 where
+pub record Follows (run : RealRun) (before after said : List ℕ) (state : ReplayState) : Type 0 where
   pub reply : after ≡ before ++ said
-  pub state : StandsFor manager table state
+  pub stands : RealStandsFor run state
 
 -- these bytes have no LF
 abbrev pub IsOneLine : List ℕ → Type 0

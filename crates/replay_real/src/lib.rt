@@ -4,3 +4,6 @@
 
 mod owner;
 mod owners;
+mod run;
+
+pub use run::RealRun;

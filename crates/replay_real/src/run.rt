@@ -1,0 +1,293 @@
+ghost use Rattle.std.specs.Prelude.{◌≡◌, ℕ, ◌+◌, ◌*◌, ◌<◌, ◌≤◌, ◌^◌, false, nat_lt, ◌++◌, length, drop, IfOk, OnOk};
+ghost use Rattle.units.specs.Moment.{IsMoment};
+ghost use Rattle.units.specs.declared.TheConstants.{PAGE, MOST_PAGES};
+ghost use Rattle.machine.specs.declared.event.Event.TheVariants as event;
+ghost use Rattle.machine.specs.Answers.{granted};
+ghost use Rattle.block_pool.specs.Stock.{no_blocks};
+ghost use Rattle.discard_book.specs.Legal.{room};
+ghost use Rattle.manager_state.specs.Calls.{limit_under};
+ghost use Rattle.line_text.specs.Ranges.{IsInRange, IsByteCount};
+ghost use Rattle.replay_plain.specs.State.{ReplayState, first_state, after_event};
+ghost use Rattle.replay_plain.specs.Commands.{after_grant, state_after, is_finding, pressed};
+ghost use Rattle.replay_plain.specs.Replies.{answered_text, read_text, grant_text, granted_text, reduced_words, reply_of};
+ghost use Rattle.replay_real.specs.Standing.{RealStandsFor, Follows, AppendsWords, Grows};
+ghost use Rattle.replay_real.specs.Acts.{ReducesAndTells, SetsAndTells, TriesAndTells, ReturnsAndTells, Releases, try_answer, back_answer};
+
+use crate::owners::Owners;
+use discard_book::Entry;
+use line_text::Command;
+use lru_reduce::Reduced;
+use machine::Answer;
+use manager_state::{Back, Level, State, Tried};
+
+use replay_plain::{
+    ReplayCfg, push_answer, push_back_answer, push_granted, push_hex, push_reduced, push_removed,
+};
+use std::alloc::Global;
+use units::NoMemory;
+
+/// A run of a script on real segments: one manager's state, and the owners of the plain segments.
+/// It waits for nobody.
+#[derive(Drop)]
+pub struct RealRun {
+    state: State,
+    owners: Owners,
+}
+
+impl RealRun {
+    /// A run before its first command.
+    pub fn new(alloc: Global, cfg: &ReplayCfg) -> Result<RealRun, NoMemory>
+        ensures first { IfOk result (λ run. RealStandsFor run (first_state cfg.now)) }
+        ensures stock { IfOk result (λ run. run.state.stock ≡ no_blocks cfg.now.keep) }
+    {
+        Ok(RealRun {
+            state: State::new(alloc, cfg.limit, cfg.keep)?,
+            owners: Owners::new(alloc)?,
+        })
+    }
+
+    /// The entries of the book of its manager.
+    pub fn entries(&self) -> &[Entry]
+        ensures { result.now ≡ self.now.state.entries }
+    {
+        self.state.book().entries()
+    }
+
+    /// The state of its manager.
+    pub fn into_state(self) -> State
+        ensures { result ≡ self.state }
+    {
+        self.state
+    }
+
+    /// Adds the reply to a grant of a segment of these pages to a client at a moment.
+    fn grant(
+        &mut self,
+        alloc: Global,
+        client: u32,
+        pages: u32,
+        at: u64,
+        reply: &mut Vec<u8>,
+    ) -> Result<(), NoMemory>
+        requires client { 1 ≤ client }
+        requires pages { (1 ≤ pages) × (pages ≤ MOST_PAGES) }
+        requires moment { IsMoment at }
+        ensures follows { OnOk result ((state : ReplayState) → RealStandsFor self.old state
+            → nat_lt (room state.limit pages) (granted state.events) ≡ false
+            → Follows self.new reply.old.items reply.new.items
+              (grant_text state client pages) (after_grant state client pages)) }
+        ensures words { OnOk result (AppendsWords reply.old.items reply.new.items) }
+        ensures book { Grows self.old.state.entries self.new.state.entries }
+    {
+        let side = self.state.grant(alloc, client, pages, at)?;
+        let id = side.id();
+        self.owners.add(alloc, client, side)?;
+        push_answer(reply, Answer::Granted { id })
+    }
+
+    /// Adds the reply to a lock of a range of pages.
+    fn lock(
+        &mut self,
+        id: u64,
+        first: u32,
+        count: u32,
+        reply: &mut Vec<u8>,
+    ) -> Result<(), NoMemory>
+        ensures words { OnOk result (AppendsWords reply.old.items reply.new.items) }
+        ensures state { self.new.state ≡ self.old.state }
+    {
+        push_answer(reply, self.owners.lock(id, first, count))
+    }
+
+    /// Adds the reply to an unlock of a range of pages at a moment.
+    fn unlock(
+        &mut self,
+        id: u64,
+        first: u32,
+        count: u32,
+        at: u64,
+        reply: &mut Vec<u8>,
+    ) -> Result<(), NoMemory>
+        requires { IsMoment at }
+        ensures follows { OnOk result ((state : ReplayState) → RealStandsFor self.old state
+            → Follows self.new reply.old.items reply.new.items
+              (answered_text state (event.Unlock id first count at))
+              (after_event state (event.Unlock id first count at))) }
+        ensures words { OnOk result (AppendsWords reply.old.items reply.new.items) }
+        ensures state { self.new.state ≡ self.old.state }
+    {
+        push_answer(reply, self.owners.unlock(id, first, count, at))
+    }
+
+    /// Adds the reply to a write of bytes at a place.
+    fn write(
+        &mut self,
+        id: u64,
+        place: u64,
+        bytes: &[u8],
+        reply: &mut Vec<u8>,
+    ) -> Result<(), NoMemory>
+        requires some { 0 < length bytes.now }
+        requires near { place + length bytes.now ≤ 2 ^ 32 }
+        ensures follows { OnOk result ((state : ReplayState) → RealStandsFor self.old state
+            → Follows self.new reply.old.items reply.new.items
+              (answered_text state (event.Write id place bytes.now))
+              (after_event state (event.Write id place bytes.now))) }
+        ensures words { OnOk result (AppendsWords reply.old.items reply.new.items) }
+        ensures state { self.new.state ≡ self.old.state }
+    {
+        push_answer(reply, self.owners.write(id, place, bytes))
+    }
+
+    /// Adds the reply to a read of bytes at a place.
+    fn read(&self, id: u64, place: u64, count: u64, reply: &mut Vec<u8>) -> Result<(), NoMemory>
+        requires some { 0 < count }
+        requires near { place + count ≤ 2 ^ 32 }
+        ensures follows { OnOk result ((state : ReplayState) → RealStandsFor self.now state
+            → reply.new.items ≡ reply.old.items ++ read_text state id place count) }
+        ensures words { OnOk result (AppendsWords reply.old.items reply.new.items) }
+    {
+        match self.owners.read(id, place, count) {
+            Some(bytes) => push_hex(reply, bytes),
+            None => push_answer(reply, Answer::Misuse),
+        }
+    }
+
+    /// Adds the reply to a purge try at a moment.
+    fn try_one(&mut self, id: u64, at: u64, reply: &mut Vec<u8>) -> Result<(), NoMemory>
+        requires { IsMoment at }
+        ensures tells { OnOk result (TriesAndTells id at
+            self.old.state self.new.state reply.old.items reply.new.items) }
+        ensures words { OnOk result (AppendsWords reply.old.items reply.new.items) }
+        ensures book { Grows self.old.state.entries self.new.state.entries }
+    {
+        let told = self.state.try_one(id, at);
+        push_answer(reply, answer_to_try(told))
+    }
+
+    /// Adds the reply to a return. The segment is given up first, where it is plain.
+    fn back(&mut self, id: u64, reply: &mut Vec<u8>) -> Result<(), NoMemory>
+        ensures tells { OnOk result (ReturnsAndTells id self.old.owners self.new.owners
+            self.old.state self.new.state reply.old.items reply.new.items) }
+        ensures words { OnOk result (AppendsWords reply.old.items reply.new.items) }
+        ensures book { Grows self.old.state.entries self.new.state.entries }
+    {
+        let client = self.owners.client(id);
+        let block = self.owners.give_up(id);
+        let told = self.state.back(client, id, block);
+        push_back_answer(reply, answer_to_back(told))
+    }
+
+    /// Adds the reply to a reduction to a limit at a moment.
+    fn reduce(
+        &mut self,
+        alloc: Global,
+        limit: u64,
+        at: u64,
+        reply: &mut Vec<u8>,
+    ) -> Result<(), NoMemory>
+        requires { IsMoment at }
+        ensures tells { OnOk result (ReducesAndTells limit at
+            self.old.state self.new.state reply.old.items reply.new.items) }
+        ensures words { OnOk result (AppendsWords reply.old.items reply.new.items) }
+        ensures book { Grows self.old.state.entries self.new.state.entries }
+    {
+        let before = self.entries().len();
+        let told = self.state.reduce_to(alloc, limit, at)?;
+        self.tell(before, told, reply)
+    }
+
+    /// Adds the reply to a reduction to the manager's limit at a moment.
+    fn enforce(&mut self, alloc: Global, at: u64, reply: &mut Vec<u8>) -> Result<(), NoMemory>
+        requires { IsMoment at }
+        ensures tells { OnOk result (ReducesAndTells self.old.state.limit at
+            self.old.state self.new.state reply.old.items reply.new.items) }
+        ensures words { OnOk result (AppendsWords reply.old.items reply.new.items) }
+        ensures book { Grows self.old.state.entries self.new.state.entries }
+    {
+        let before = self.entries().len();
+        let told = self.state.enforce(alloc, at)?;
+        self.tell(before, told, reply)
+    }
+
+    /// Adds the reply to want of memory at a moment.
+    fn pressure(
+        &mut self,
+        alloc: Global,
+        critical: bool,
+        at: u64,
+        reply: &mut Vec<u8>,
+    ) -> Result<(), NoMemory>
+        requires { IsMoment at }
+        ensures tells { OnOk result (ReducesAndTells (pressed critical self.old.state.limit) at
+            self.old.state self.new.state reply.old.items reply.new.items) }
+        ensures words { OnOk result (AppendsWords reply.old.items reply.new.items) }
+        ensures book { Grows self.old.state.entries self.new.state.entries }
+    {
+        let before = self.entries().len();
+        let told = self.state.pressure(alloc, level(critical), at)?;
+        self.tell(before, told, reply)
+    }
+
+    /// Adds the reply to a new limit, to which it reduces at a moment.
+    fn limit(
+        &mut self,
+        alloc: Global,
+        limit: u64,
+        at: u64,
+        reply: &mut Vec<u8>,
+    ) -> Result<(), NoMemory>
+        requires { IsMoment at }
+        ensures tells { OnOk result (SetsAndTells limit at
+            self.old.state self.new.state reply.old.items reply.new.items) }
+        ensures words { OnOk result (AppendsWords reply.old.items reply.new.items) }
+        ensures book { Grows self.old.state.entries self.new.state.entries }
+    {
+        let before = self.entries().len();
+        let told = self.state.set_limit(alloc, limit, at)?;
+        self.tell(before, told, reply)
+    }
+
+    /// Adds the words of a reduction, before which the book had so many entries.
+    fn tell(&self, before: usize, told: Reduced, reply: &mut Vec<u8>) -> Result<(), NoMemory>
+        requires { before ≤ length self.now.state.entries }
+        ensures told { OnOk result (reply.new.items ≡ reply.old.items
+            ++ reduced_words told.after told.least (drop before self.now.state.entries)) }
+        ensures words { OnOk result (AppendsWords reply.old.items reply.new.items) }
+    {
+        push_reduced(reply, told.after, told.least, &self.entries()[before..])
+    }
+}
+
+/// What a try answered, as an answer of the machine.
+fn answer_to_try(told: Tried) -> Answer
+    ensures { result ≡ try_answer told }
+{
+    match told {
+        Tried::Taken => Answer::Taken,
+        Tried::Used { known } => Answer::Used { known },
+        Tried::NotLive => Answer::Misuse,
+    }
+}
+
+/// What a return answered, as an answer of the machine.
+fn answer_to_back(told: Back) -> Answer
+    ensures { result ≡ back_answer told }
+{
+    match told {
+        Back::Counted => Answer::Counted,
+        Back::Purged => Answer::Purged,
+        Back::Unknown => Answer::Misuse,
+    }
+}
+
+/// The level of a want of memory.
+fn level(critical: bool) -> Level
+    ensures { (limit : ℕ) → limit_under result limit ≡ pressed critical limit }
+{
+    if critical {
+        Level::Critical
+    } else {
+        Level::Moderate
+    }
+}
