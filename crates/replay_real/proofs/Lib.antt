@@ -3,3 +3,4 @@ pub mod TableSteps
 pub mod OneLine
 pub mod BookGrows
 pub mod Following
+pub mod Releasing

@@ -1,5 +1,9 @@
--- What the manager did at a command, and what was told of it.
-use Rattle.std.specs.Prelude.{◌≡◌, ◌≢◌, ℕ, List, ◌++◌, length, drop, None, Option}
+-- What was done at a command, whatever happened before it, and what was told of that.
+use Rattle.std.specs.Prelude.{◌≡◌, ◌≢◌, ℕ, ◌<◌, List, ◌++◌, length, drop, None, Option}
+use Rattle.segment.specs.Owned.{Owned}
+use Rattle.discard_book.specs.Live.{granted}
+use Rattle.line_text.specs.declared.command.Command.{Command}
+use Rattle.line_text.specs.declared.command.Command.TheVariants as command
 use Rattle.machine.specs.declared.event.Answer.{Answer}
 use Rattle.machine.specs.declared.event.Answer.TheVariants as answer
 use Rattle.lru_reduce.specs.declared.reduction.Reduced.{Reduced}
@@ -8,10 +12,18 @@ use Rattle.manager_state.specs.declared.answers.Back.TheVariants as back
 use Rattle.manager_state.specs.declared.answers.Tried.{Tried}
 use Rattle.manager_state.specs.declared.answers.Tried.TheVariants as tried
 use Rattle.manager_state.specs.Managed.{Managed}
-use Rattle.manager_state.specs.Calls.{Reduces, SetsLimit, TriesOne, GivesBack}
-use Rattle.replay_plain.specs.Replies.{answer_text, back_answer_text, reduced_words}
+use Rattle.manager_state.specs.Calls.{Reduces, Grants, TriesOne, GivesBack, Removes}
+use Rattle.replay_plain.specs.Commands.{pressed}
+use Rattle.replay_plain.specs.Replies.{answer_text, back_answer_text, reduced_words, removed_words, granted_words}
+use Rattle.replay_real.specs.declared.run.RealRun.{RealRun}
 use Rattle.replay_real.specs.declared.owners.Given.{Given}
 use Rattle.replay_real.specs.Owners.{given_at}
+
+-- a segment was granted, and its number told
+pub record GrantsAndTells (client pages now : ℕ) (old new : Managed) (before after : List ℕ) : Type 0 where
+  pub side : Owned
+  pub grants : Grants client pages now side old new
+  pub words : after ≡ before ++ answer_text (answer.Granted side.id)
 
 -- the words of a reduction that told this, between these states of the manager
 abbrev pub told_words : Reduced → Managed → Managed → List ℕ
@@ -59,3 +71,44 @@ pub record ReturnsAndTells (id : ℕ) (table left : List Given) (old new : Manag
 pub record Releases (client : ℕ) (old new : List Given) : Type 0 where
   pub ended : (id : ℕ) → (given_at old id).client ≡ client → (given_at new id).owner ≡ None
   pub others : (id : ℕ) → (given_at old id).client ≢ client → given_at new id ≡ given_at old id
+
+-- each plain segment of a client with a number below this one was given up, and no other; each
+-- number is with the same client
+pub record ReleasesBelow (client end : ℕ) (old new : List Given) : Type 0 where
+  pub ended : (id : ℕ) → id < end → (given_at old id).client ≡ client → (given_at new id).owner ≡ None
+  pub others : (id : ℕ) → (given_at old id).client ≢ client → given_at new id ≡ given_at old id
+  pub clients : (id : ℕ) → (given_at new id).client ≡ (given_at old id).client
+  pub places : length new ≡ length old
+
+-- A client was removed: its live segments were counted off, and then each of its plain segments
+-- was given up. How many were counted off was told.
+pub record RemovesAndTells (client : ℕ) (old new : RealRun) (before after : List ℕ) : Type 0 where
+  pub removed : ℕ
+  pub between : Managed
+  pub removes : Removes client removed old.state between
+  pub released : Releases client old.owners new.owners
+  pub words : after ≡ before ++ removed_words removed
+
+-- What was done at a command. An owner's command leaves the manager alone.
+abbrev pub Acts : Command → RealRun → RealRun → List ℕ → List ℕ → Type 0
+Acts (command.Grant client pages at) old new before after =
+    GrantsAndTells client pages at old.state new.state before after
+Acts (command.Lock id first count) old new before after = new.state ≡ old.state
+Acts (command.Unlock id first count at) old new before after = new.state ≡ old.state
+Acts (command.Write id place bytes) old new before after = new.state ≡ old.state
+Acts (command.Read id place count) old new before after = new ≡ old
+Acts (command.Try id at) old new before after =
+    TriesAndTells id at old.state new.state before after
+Acts (command.Back id) old new before after =
+    ReturnsAndTells id old.owners new.owners old.state new.state before after
+Acts (command.Reduce limit at) old new before after =
+    ReducesAndTells limit at old.state new.state before after
+Acts (command.Enforce at) old new before after =
+    ReducesAndTells old.state.limit at old.state new.state before after
+Acts (command.Pressure critical at) old new before after =
+    ReducesAndTells (pressed critical old.state.limit) at old.state new.state before after
+Acts (command.Limit limit at) old new before after =
+    SetsAndTells limit at old.state new.state before after
+Acts (command.Remove client) old new before after = RemovesAndTells client old new before after
+Acts command.Granted old new before after =
+    (new ≡ old) × (after ≡ before ++ granted_words (granted old.state.entries))

@@ -117,6 +117,7 @@ impl Owner {
             → is_some result ≡ (is_live h s && bytes_held h s place count) }
         ensures bytes { IfSome result (λ bytes.
             bytes.now ≡ take count (drop place self.now.bytes)) }
+        ensures few { IfSome result (λ bytes. length bytes.now ≤ count) }
     {
         if !holds(&self.locks, place, count) {
             return None;

@@ -78,6 +78,7 @@ impl Given {
         ensures bytes { IfSome result (λ bytes. (h : History) (id : ℕ)
             → ShowsAt h id self.now.owner
             → bytes.now ≡ take count (drop place (left_of h id))) }
+        ensures few { IfSome result (λ bytes. length bytes.now ≤ count) }
     {
         match &self.owner {
             Some(owner) => owner.read(place, count),
@@ -223,6 +224,7 @@ impl Owners {
             → is_some result ≡ (is_live h id && bytes_held h id place count) }
         ensures bytes { IfSome result (λ bytes. (h : History) → ShowsEach h self.now
             → bytes.now ≡ take count (drop place (left_of h id))) }
+        ensures few { IfSome result (λ bytes. length bytes.now ≤ count) }
     {
         if id >= self.given.len() as u64 {
             return None;

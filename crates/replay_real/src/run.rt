@@ -1,17 +1,19 @@
-ghost use Rattle.std.specs.Prelude.{◌≡◌, ℕ, ◌+◌, ◌*◌, ◌<◌, ◌≤◌, ◌^◌, false, nat_lt, ◌++◌, length, drop, IfOk, OnOk};
+ghost use Rattle.std.specs.Prelude.{◌≡◌, ◌≢◌, ℕ, ◌+◌, ◌*◌, ◌<◌, ◌≤◌, ◌^◌, false, nat_lt, ◌++◌, length, drop, None, IfOk, OnOk};
 ghost use Rattle.units.specs.Moment.{IsMoment};
 ghost use Rattle.units.specs.declared.TheConstants.{PAGE, MOST_PAGES};
 ghost use Rattle.machine.specs.declared.event.Event.TheVariants as event;
 ghost use Rattle.machine.specs.Answers.{granted};
 ghost use Rattle.block_pool.specs.Stock.{no_blocks};
 ghost use Rattle.discard_book.specs.Legal.{room};
+ghost use Rattle.discard_book.specs.Live.{granted as granted_pages};
 ghost use Rattle.manager_state.specs.Calls.{limit_under};
 ghost use Rattle.line_text.specs.Ranges.{IsInRange, IsByteCount};
 ghost use Rattle.replay_plain.specs.State.{ReplayState, first_state, after_event};
 ghost use Rattle.replay_plain.specs.Commands.{after_grant, state_after, is_finding, pressed};
-ghost use Rattle.replay_plain.specs.Replies.{answered_text, read_text, grant_text, granted_text, reduced_words, reply_of};
+ghost use Rattle.replay_plain.specs.Replies.{answered_text, read_text, grant_text, granted_text, granted_words, reduced_words, reply_of};
+ghost use Rattle.replay_real.specs.Owners.{given_at};
 ghost use Rattle.replay_real.specs.Standing.{RealStandsFor, Follows, AppendsWords, Grows};
-ghost use Rattle.replay_real.specs.Acts.{ReducesAndTells, SetsAndTells, TriesAndTells, ReturnsAndTells, Releases, try_answer, back_answer};
+ghost use Rattle.replay_real.specs.Acts.{Acts, GrantsAndTells, ReducesAndTells, SetsAndTells, TriesAndTells, ReturnsAndTells, Releases, RemovesAndTells, try_answer, back_answer};
 
 use crate::owners::Owners;
 use discard_book::Entry;
@@ -19,7 +21,6 @@ use line_text::Command;
 use lru_reduce::Reduced;
 use machine::Answer;
 use manager_state::{Back, Level, State, Tried};
-
 use replay_plain::{
     ReplayCfg, push_answer, push_back_answer, push_granted, push_hex, push_reduced, push_removed,
 };
@@ -60,6 +61,53 @@ impl RealRun {
         self.state
     }
 
+    /// Runs a command, and adds the words of its reply. As long as no command asked a segment what
+    /// happened to it, the reply is that of the state that the run stands for, and the run stands
+    /// for the state after the command. In any case the reply has no LF, and the book only grows.
+    pub fn run(
+        &mut self,
+        alloc: Global,
+        command: &Command,
+        reply: &mut Vec<u8>,
+    ) -> Result<(), NoMemory>
+        requires { IsInRange command.now }
+        ensures follows { OnOk result ((state : ReplayState) → RealStandsFor self.old state
+            → is_finding state command.now ≡ false
+            → Follows self.new reply.old.items reply.new.items
+              (reply_of state command.now) (state_after state command.now)) }
+        ensures acts { OnOk result (Acts command.now
+            self.old self.new reply.old.items reply.new.items) }
+        ensures words { OnOk result (AppendsWords reply.old.items reply.new.items) }
+        ensures book { Grows self.old.state.entries self.new.state.entries }
+    {
+        match command {
+            Command::Grant { client, pages, at } => {
+                self.grant(alloc, *client as u32, *pages as u32, *at, reply)
+            }
+            Command::Lock { id, first, count } => {
+                self.lock(*id, *first as u32, *count as u32, reply)
+            }
+            Command::Unlock {
+                id,
+                first,
+                count,
+                at,
+            } => self.unlock(*id, *first as u32, *count as u32, *at, reply),
+            Command::Write { id, place, bytes } => {
+                self.write(*id, *place, bytes.as_slice(), reply)
+            }
+            Command::Read { id, place, count } => self.read(*id, *place, *count, reply),
+            Command::Try { id, at } => self.try_one(*id, *at, reply),
+            Command::Back { id } => self.back(*id, reply),
+            Command::Reduce { limit, at } => self.reduce(alloc, *limit, *at, reply),
+            Command::Enforce { at } => self.enforce(alloc, *at, reply),
+            Command::Pressure { critical, at } => self.pressure(alloc, *critical, *at, reply),
+            Command::Limit { limit, at } => self.limit(alloc, *limit, *at, reply),
+            Command::Remove { client } => self.remove(*client as u32, reply),
+            Command::Granted => self.tell_granted(reply),
+        }
+    }
+
     /// Adds the reply to a grant of a segment of these pages to a client at a moment.
     fn grant(
         &mut self,
@@ -76,6 +124,8 @@ impl RealRun {
             → nat_lt (room state.limit pages) (granted state.events) ≡ false
             → Follows self.new reply.old.items reply.new.items
               (grant_text state client pages) (after_grant state client pages)) }
+        ensures grants { OnOk result (GrantsAndTells client pages at
+            self.old.state self.new.state reply.old.items reply.new.items) }
         ensures words { OnOk result (AppendsWords reply.old.items reply.new.items) }
         ensures book { Grows self.old.state.entries self.new.state.entries }
     {
@@ -246,6 +296,59 @@ impl RealRun {
         let before = self.entries().len();
         let told = self.state.set_limit(alloc, limit, at)?;
         self.tell(before, told, reply)
+    }
+
+    /// Adds the reply to the removal of a client.
+    fn remove(&mut self, client: u32, reply: &mut Vec<u8>) -> Result<(), NoMemory>
+        ensures tells { OnOk result (RemovesAndTells client
+            self.old self.new reply.old.items reply.new.items) }
+        ensures words { OnOk result (AppendsWords reply.old.items reply.new.items) }
+        ensures book { Grows self.old.state.entries self.new.state.entries }
+    {
+        let removed = self.state.remove_client(client);
+        self.release(client);
+        push_removed(reply, removed)
+    }
+
+    /// Gives up each plain segment of a client, and hands it in.
+    fn release(&mut self, client: u32)
+        ensures released { Releases client self.old.owners self.new.owners }
+        ensures book { Grows self.old.state.entries self.new.state.entries }
+    {
+        for id in 0..self.owners.places() {
+            self.hand_in(client, id);
+        }
+    }
+
+    /// Gives up the segment of a number and hands it in, where it is plain and with this client.
+    fn hand_in(&mut self, client: u32, id: u64)
+        ensures ended { (given_at self.old.owners id).client ≡ client
+            → (given_at self.new.owners id).owner ≡ None }
+        ensures same { (given_at self.old.owners id).client ≢ client
+            → given_at self.new.owners id ≡ given_at self.old.owners id }
+        ensures others { (n : ℕ) → n ≢ id
+            → given_at self.new.owners n ≡ given_at self.old.owners n }
+        ensures client { (given_at self.new.owners id).client
+            ≡ (given_at self.old.owners id).client }
+        ensures places { length self.new.owners ≡ length self.old.owners }
+        ensures book { Grows self.old.state.entries self.new.state.entries }
+    {
+        if !self.owners.is_plain_of(client, id) {
+            return;
+        }
+        let block = self.owners.give_up(id);
+        self.state.back(client, id, block);
+    }
+
+    /// Adds the number of granted pages.
+    fn tell_granted(&self, reply: &mut Vec<u8>) -> Result<(), NoMemory>
+        ensures follows { OnOk result ((state : ReplayState) → RealStandsFor self.now state
+            → reply.new.items ≡ reply.old.items ++ granted_text state) }
+        ensures tells { OnOk result (reply.new.items
+            ≡ reply.old.items ++ granted_words (granted_pages self.now.state.entries)) }
+        ensures words { OnOk result (AppendsWords reply.old.items reply.new.items) }
+    {
+        push_granted(reply, self.state.granted())
     }
 
     /// Adds the words of a reduction, before which the book had so many entries.

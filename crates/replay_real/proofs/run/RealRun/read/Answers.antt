@@ -1,10 +1,6 @@
-use Rattle.std.proofs.Common.{◌≡◌, ◌≤◌, length, sym, ap, ◌∙◌, arith}
 use Rattle.std.proofs.lemmas.Result.{on_ok_weaker}
 use Rattle.replay_real.proofs.OneLine.{appends, hex_line}
 use Rattle.replay_real.proofs.run.RealRun.read.Goals as goal
-
-pub push_hex-requires : goal.push_hex-requires
-push_hex-requires c = let e = c.in-Some.ensures.bytes in let r = c.read.ensures in ?
 
 pub returns-in-Some-clause-words : goal.returns-in-Some-clause-words
 returns-in-Some-clause-words c = on_ok_weaker c.push_hex.result (λ is. appends _ _ _ is (hex_line c.in-Some.bytes.now)) c.push_hex.ensures
