@@ -1,13 +1,13 @@
 -- The run stands for the state of the replay, command by command.
-use Rattle.std.proofs.Common.{◌≡◌, ◌≢◌, ℕ, ◌+◌, ◌<◌, ◌≤◌, ◌==◌, nat_lt, Bool, true, false, not, ◌&&◌, cond, MatchBool, List, [], ◌∷◌, ◌++◌, length, take, drop, filter, count_by, zero-add, add-zero, refl, sym, ap, ◌∙◌, subst, arith}
+use Rattle.std.proofs.Common.{◌⊎◌, inl, inr, ◌≡◌, ◌≢◌, ℕ, ◌+◌, ◌<◌, ◌≤◌, ◌==◌, nat_lt, Bool, true, false, not, ◌&&◌, cond, MatchBool, List, [], ◌∷◌, ◌++◌, length, take, drop, filter, count_by, zero-add, add-zero, refl, sym, ap, ◌∙◌, subst, arith}
 use Rattle.std.proofs.lemmas.List.{append-nil}
 use Rattle.std.proofs.lemmas.List.Sums.{sum_by_push}
-use Rattle.std.proofs.lemmas.Bool.{ne_eqb, eq-eqb, cases_eq}
+use Rattle.std.proofs.lemmas.Bool.{false≢true}
 use Rattle.units.specs.declared.TheConstants.{MOST_PAGES}
 use Rattle.machine.specs.declared.event.Event.{Event}
 use Rattle.machine.specs.declared.event.Event.TheVariants.{Grant, Lock, Unlock, Write}
 use Rattle.machine.specs.declared.event.Answer.{Answer}
-use Rattle.machine.specs.declared.event.Answer.TheVariants.{Granted, Misuse}
+use Rattle.machine.specs.declared.event.Answer.TheVariants.{Granted, Gone}
 use Rattle.machine.specs.History.{History, client_of}
 use Rattle.machine.specs.Answers.{answered, answered_after, answer, answer_of, granted, granted_numbers}
 use Rattle.machine.specs.Laws.{taken_off, added}
@@ -47,6 +47,10 @@ pub record IsPlain (state : ReplayState) (e : Event) : Type 0 where
 pub plain_unlock : (state : ReplayState) (s first count at : ℕ) → IsPlain state (Unlock s first count at)
 unfolding client_of
 plain_unlock state s first count at = record { no_grant = refl; no_entry = refl; none_off = refl; none_added = refl; clients = λ id. refl }
+
+pub plain_lock : (state : ReplayState) (s first count : ℕ) → IsPlain state (Lock s first count)
+unfolding client_of
+plain_lock state s first count = record { no_grant = refl; no_entry = refl; none_off = refl; none_added = refl; clients = λ id. refl }
 
 pub plain_write : (state : ReplayState) (s place : ℕ) (bytes : List ℕ) → IsPlain state (Write s place bytes)
 unfolding client_of
@@ -183,3 +187,12 @@ stands_first cfg manager table entries limit shows clients places =
       clients = clients;
       owners = shows;
     }
+
+-- an answer is Gone, or it is another
+abbrev is_gone_answer : Answer → Bool
+is_gone_answer Gone = true
+is_gone_answer other = false
+
+pub gone_or_not : (a : Answer) → (a ≡ Gone) ⊎ (a ≢ Gone)
+gone_or_not Gone = inl refl
+gone_or_not a = inr (λ e. false≢true (ap is_gone_answer e))

@@ -4,3 +4,4 @@ pub mod OneLine
 pub mod BookGrows
 pub mod Following
 pub mod Releasing
+pub mod Scripts

@@ -1,12 +1,17 @@
 -- The state of a replay that a run on real segments stands for, and what a command makes of it.
-use Rattle.std.specs.Prelude.{◌≡◌, ℕ, ◌+◌, ◌==◌, false, List, ◌++◌, length}
+use Rattle.std.specs.Prelude.{◌≡◌, ◌⊎◌, ℕ, ◌+◌, ◌==◌, false, List, ◌++◌, length}
 use Rattle.std.specs.List.{list_any}
+use Rattle.machine.specs.declared.event.Event.TheVariants as event
+use Rattle.machine.specs.declared.event.Answer.TheVariants as answer
 use Rattle.machine.specs.Answers.{answered, granted as granted_by_events}
 use Rattle.machine.specs.History.{client_of}
 use Rattle.discard_book.specs.Live.{grants, granted as granted_by_entries}
 use Rattle.discard_book.specs.declared.entry.Entry.{Entry}
 use Rattle.manager_state.specs.Managed.{Managed}
-use Rattle.replay_plain.specs.State.{ReplayState, grants_of}
+use Rattle.line_text.specs.declared.command.Command.{Command}
+use Rattle.line_text.specs.declared.command.Command.TheVariants.{Lock}
+use Rattle.replay_plain.specs.State.{ReplayState, grants_of, after_event}
+use Rattle.replay_plain.specs.Replies.{answer_text, answered_text}
 use Rattle.replay_real.specs.declared.owners.Given.{Given}
 use Rattle.replay_real.specs.declared.run.RealRun.{RealRun}
 use Rattle.replay_real.specs.Owners.{given_at, ShowsEach}
@@ -32,6 +37,15 @@ RealStandsFor run state = StandsFor run.state run.owners state
 pub record Follows (run : RealRun) (before after said : List ℕ) (state : ReplayState) : Type 0 where
   pub reply : after ≡ before ++ said
   pub stands : RealStandsFor run state
+
+-- A lock was answered as the machine answers it, and the run stands for the state after it; or the
+-- segment was found gone. What another side did to the segment is not told here.
+abbrev pub LockFollows : Command → RealRun → List ℕ → List ℕ → ReplayState → Type 0
+LockFollows (Lock id first count) run before after state =
+    Follows run before after
+        (answered_text state (event.Lock id first count)) (after_event state (event.Lock id first count))
+    ⊎ (after ≡ before ++ answer_text answer.Gone)
+LockFollows other run before after state = Unit {0}
 
 -- these bytes have no LF
 abbrev pub IsOneLine : List ℕ → Type 0

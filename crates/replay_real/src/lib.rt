@@ -5,5 +5,7 @@
 mod owner;
 mod owners;
 mod run;
+#[cfg(test)]
+mod tests;
 
 pub use run::RealRun;

@@ -171,6 +171,8 @@ impl Owners {
             → result ≡ answer_of h (event.Lock id first count) }
         ensures after { (h : History) → ShowsEach h self.old → result ≢ answer.Gone
             → ShowsEach ((event.Lock id first count, result) ∷ h) self.new }
+        ensures clients { (n : ℕ) → (given_at self.new n).client ≡ (given_at self.old n).client }
+        ensures places { length self.new ≡ length self.old }
     {
         if id >= self.given.len() as u64 {
             return Answer::Misuse;

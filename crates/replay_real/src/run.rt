@@ -7,12 +7,13 @@ ghost use Rattle.block_pool.specs.Stock.{no_blocks};
 ghost use Rattle.discard_book.specs.Legal.{room};
 ghost use Rattle.discard_book.specs.Live.{granted as granted_pages};
 ghost use Rattle.manager_state.specs.Calls.{limit_under};
-ghost use Rattle.line_text.specs.Ranges.{IsInRange, IsByteCount};
+ghost use Rattle.line_text.specs.declared.command.Command.TheVariants as command;
+ghost use Rattle.line_text.specs.Ranges.{IsInRange};
 ghost use Rattle.replay_plain.specs.State.{ReplayState, first_state, after_event};
 ghost use Rattle.replay_plain.specs.Commands.{after_grant, state_after, is_finding, pressed};
 ghost use Rattle.replay_plain.specs.Replies.{answered_text, read_text, grant_text, granted_text, granted_words, reduced_words, reply_of};
 ghost use Rattle.replay_real.specs.Owners.{given_at};
-ghost use Rattle.replay_real.specs.Standing.{RealStandsFor, Follows, AppendsWords, Grows};
+ghost use Rattle.replay_real.specs.Standing.{RealStandsFor, Follows, LockFollows, AppendsWords, Grows};
 ghost use Rattle.replay_real.specs.Acts.{Acts, GrantsAndTells, ReducesAndTells, SetsAndTells, TriesAndTells, ReturnsAndTells, Releases, RemovesAndTells, try_answer, back_answer};
 
 use crate::owners::Owners;
@@ -75,6 +76,8 @@ impl RealRun {
             → is_finding state command.now ≡ false
             → Follows self.new reply.old.items reply.new.items
               (reply_of state command.now) (state_after state command.now)) }
+        ensures locks { OnOk result ((state : ReplayState) → RealStandsFor self.old state
+            → LockFollows command.now self.new reply.old.items reply.new.items state) }
         ensures acts { OnOk result (Acts command.now
             self.old self.new reply.old.items reply.new.items) }
         ensures words { OnOk result (AppendsWords reply.old.items reply.new.items) }
@@ -143,6 +146,9 @@ impl RealRun {
         count: u32,
         reply: &mut Vec<u8>,
     ) -> Result<(), NoMemory>
+        ensures follows { OnOk result ((state : ReplayState) → RealStandsFor self.old state
+            → LockFollows (command.Lock id first count)
+              self.new reply.old.items reply.new.items state) }
         ensures words { OnOk result (AppendsWords reply.old.items reply.new.items) }
         ensures state { self.new.state ≡ self.old.state }
     {
