@@ -17,7 +17,7 @@ use Rattle.replay_plain.specs.Commands.{pressed}
 use Rattle.replay_plain.specs.Replies.{answer_text, back_answer_text, reduced_words, removed_words, granted_words}
 use Rattle.replay_real.specs.declared.run.RealRun.{RealRun}
 use Rattle.replay_real.specs.declared.owners.Given.{Given}
-use Rattle.replay_real.specs.Owners.{given_at}
+use Rattle.replay_real.specs.Owners.{given_at, GaveUp}
 
 -- a segment was granted, and its number told
 pub record GrantsAndTells (client pages now : ℕ) (old new : Managed) (before after : List ℕ) : Type 0 where
@@ -63,9 +63,17 @@ back_answer back.Unknown = answer.Misuse
 pub record ReturnsAndTells (id : ℕ) (table left : List Given) (old new : Managed) (before after : List ℕ) : Type 0 where
   pub told : Back
   pub block : Option (List ℕ)
+  pub gave : GaveUp (given_at table id).owner block
   pub returns : GivesBack (given_at table id).client id block told old new
   pub ended : (given_at left id).owner ≡ None
   pub words : after ≡ before ++ back_answer_text (back_answer told)
+
+-- a plain segment was given up, and its block, where there was one, handed in by its client
+pub record HandsIn (client id : ℕ) (old new : RealRun) : Type 0 where
+  pub told : Back
+  pub block : Option (List ℕ)
+  pub gave : GaveUp (given_at old.owners id).owner block
+  pub returns : GivesBack client id block told old.state new.state
 
 -- each plain segment of a client was given up, and no other
 pub record Releases (client : ℕ) (old new : List Given) : Type 0 where

@@ -43,7 +43,7 @@ pub record Follows (run : RealRun) (before after said : List ℕ) (state : Repla
 abbrev pub LockFollows : Command → RealRun → List ℕ → List ℕ → ReplayState → Type 0
 LockFollows (Lock id first count) run before after state =
     Follows run before after
-        (answered_text state (event.Lock id first count)) (after_event state (event.Lock id first count))
+    (answered_text state (event.Lock id first count)) (after_event state (event.Lock id first count))
     ⊎ (after ≡ before ++ answer_text answer.Gone)
 LockFollows other run before after state = Unit {0}
 

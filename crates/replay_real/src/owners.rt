@@ -5,7 +5,7 @@ ghost use Rattle.machine.specs.declared.event.Answer.TheVariants as answer;
 ghost use Rattle.machine.specs.History.{History, left_of};
 ghost use Rattle.machine.specs.Answers.{answer_of, is_live, bytes_held};
 ghost use Rattle.segment.specs.Owned.{new_owner, IsGranted};
-ghost use Rattle.replay_real.specs.Owners.{given_at, ShowsAt, ShowsEach};
+ghost use Rattle.replay_real.specs.Owners.{given_at, ShowsAt, ShowsEach, GaveUp};
 
 use crate::owner::Owner;
 use block_pool::Block;
@@ -88,6 +88,7 @@ impl Given {
 
     /// Gives the segment up: its block where there is one. It is not plain afterwards.
     fn give_up(&mut self) -> Option<Block>
+        ensures gave { GaveUp self.old.owner result }
         ensures owner { self.new.owner ≡ None }
         ensures client { self.new.client ≡ self.old.client }
     {
@@ -236,6 +237,7 @@ impl Owners {
 
     /// Gives the segment of a number up, where it is plain: its block where there is one.
     pub(crate) fn give_up(&mut self, id: u64) -> Option<Block>
+        ensures gave { GaveUp (given_at self.old id).owner result }
         ensures given { (given_at self.new id).owner ≡ None }
         ensures others { (n : ℕ) → n ≢ id → given_at self.new n ≡ given_at self.old n }
         ensures client { (given_at self.new id).client ≡ (given_at self.old id).client }

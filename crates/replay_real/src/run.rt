@@ -1,4 +1,4 @@
-ghost use Rattle.std.specs.Prelude.{◌≡◌, ◌≢◌, ℕ, ◌+◌, ◌*◌, ◌<◌, ◌≤◌, ◌^◌, false, nat_lt, ◌++◌, length, drop, None, IfOk, OnOk};
+ghost use Rattle.std.specs.Prelude.{◌≡◌, ◌≢◌, ℕ, ◌+◌, ◌*◌, ◌<◌, ◌≤◌, ◌^◌, true, false, nat_lt, ◌++◌, length, drop, None, is_some, IfOk, OnOk};
 ghost use Rattle.units.specs.Moment.{IsMoment};
 ghost use Rattle.units.specs.declared.TheConstants.{PAGE, MOST_PAGES};
 ghost use Rattle.machine.specs.declared.event.Event.TheVariants as event;
@@ -14,7 +14,7 @@ ghost use Rattle.replay_plain.specs.Commands.{after_grant, state_after, is_findi
 ghost use Rattle.replay_plain.specs.Replies.{answered_text, read_text, grant_text, granted_text, granted_words, reduced_words, reply_of};
 ghost use Rattle.replay_real.specs.Owners.{given_at};
 ghost use Rattle.replay_real.specs.Standing.{RealStandsFor, Follows, LockFollows, AppendsWords, Grows};
-ghost use Rattle.replay_real.specs.Acts.{Acts, GrantsAndTells, ReducesAndTells, SetsAndTells, TriesAndTells, ReturnsAndTells, Releases, RemovesAndTells, try_answer, back_answer};
+ghost use Rattle.replay_real.specs.Acts.{Acts, GrantsAndTells, ReducesAndTells, SetsAndTells, TriesAndTells, ReturnsAndTells, HandsIn, Releases, RemovesAndTells, try_answer, back_answer};
 
 use crate::owners::Owners;
 use discard_book::Entry;
@@ -75,7 +75,7 @@ impl RealRun {
         ensures follows { OnOk result ((state : ReplayState) → RealStandsFor self.old state
             → is_finding state command.now ≡ false
             → Follows self.new reply.old.items reply.new.items
-              (reply_of state command.now) (state_after state command.now)) }
+            (reply_of state command.now) (state_after state command.now)) }
         ensures locks { OnOk result ((state : ReplayState) → RealStandsFor self.old state
             → LockFollows command.now self.new reply.old.items reply.new.items state) }
         ensures acts { OnOk result (Acts command.now
@@ -126,7 +126,7 @@ impl RealRun {
         ensures follows { OnOk result ((state : ReplayState) → RealStandsFor self.old state
             → nat_lt (room state.limit pages) (granted state.events) ≡ false
             → Follows self.new reply.old.items reply.new.items
-              (grant_text state client pages) (after_grant state client pages)) }
+            (grant_text state client pages) (after_grant state client pages)) }
         ensures grants { OnOk result (GrantsAndTells client pages at
             self.old.state self.new.state reply.old.items reply.new.items) }
         ensures words { OnOk result (AppendsWords reply.old.items reply.new.items) }
@@ -139,16 +139,10 @@ impl RealRun {
     }
 
     /// Adds the reply to a lock of a range of pages.
-    fn lock(
-        &mut self,
-        id: u64,
-        first: u32,
-        count: u32,
-        reply: &mut Vec<u8>,
-    ) -> Result<(), NoMemory>
+    fn lock(&mut self, id: u64, first: u32, count: u32, reply: &mut Vec<u8>) -> Result<(), NoMemory>
         ensures follows { OnOk result ((state : ReplayState) → RealStandsFor self.old state
             → LockFollows (command.Lock id first count)
-              self.new reply.old.items reply.new.items state) }
+            self.new reply.old.items reply.new.items state) }
         ensures words { OnOk result (AppendsWords reply.old.items reply.new.items) }
         ensures state { self.new.state ≡ self.old.state }
     {
@@ -167,8 +161,8 @@ impl RealRun {
         requires { IsMoment at }
         ensures follows { OnOk result ((state : ReplayState) → RealStandsFor self.old state
             → Follows self.new reply.old.items reply.new.items
-              (answered_text state (event.Unlock id first count at))
-              (after_event state (event.Unlock id first count at))) }
+            (answered_text state (event.Unlock id first count at))
+            (after_event state (event.Unlock id first count at))) }
         ensures words { OnOk result (AppendsWords reply.old.items reply.new.items) }
         ensures state { self.new.state ≡ self.old.state }
     {
@@ -187,8 +181,8 @@ impl RealRun {
         requires near { place + length bytes.now ≤ 2 ^ 32 }
         ensures follows { OnOk result ((state : ReplayState) → RealStandsFor self.old state
             → Follows self.new reply.old.items reply.new.items
-              (answered_text state (event.Write id place bytes.now))
-              (after_event state (event.Write id place bytes.now))) }
+            (answered_text state (event.Write id place bytes.now))
+            (after_event state (event.Write id place bytes.now))) }
         ensures words { OnOk result (AppendsWords reply.old.items reply.new.items) }
         ensures state { self.new.state ≡ self.old.state }
     {
@@ -328,6 +322,9 @@ impl RealRun {
 
     /// Gives up the segment of a number and hands it in, where it is plain and with this client.
     fn hand_in(&mut self, client: u32, id: u64)
+        ensures hands { (given_at self.old.owners id).client ≡ client
+            → is_some (given_at self.old.owners id).owner ≡ true
+            → HandsIn client id self.old self.new }
         ensures ended { (given_at self.old.owners id).client ≡ client
             → (given_at self.new.owners id).owner ≡ None }
         ensures same { (given_at self.old.owners id).client ≢ client

@@ -19,13 +19,7 @@ fn replies(alloc: Global, mut run: RealRun, script: Script) -> Result<Vec<u8>, F
 }
 
 /// Whether a script gets these replies, with a limit, and a pool that keeps so many blocks.
-fn replays(
-    alloc: Global,
-    limit: u64,
-    keep: u32,
-    script: &str,
-    wanted: &str,
-) -> Result<bool, Fail> {
+fn replays(alloc: Global, limit: u64, keep: u32, script: &str, wanted: &str) -> Result<bool, Fail> {
     let cfg = ReplayCfg {
         limit,
         standard: 64,
