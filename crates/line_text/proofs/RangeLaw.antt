@@ -1,5 +1,5 @@
 -- The commands of a script are in their ranges.
-use Rattle.std.proofs.Common.{◌≡◌, ℕ, ◌^◌, ◌+◌, ◌-◌, ◌*◌, ◌≤◌, nat_le, nat_lt, Bool, true, false, ◌&&◌, cond, List, [], ◌∷◌, ◌++◌, length, Option, Some, None, Result, Ok, Err, IfOk, IfSome, refl, ap, subst, arith, codes}
+use Rattle.std.proofs.Common.{◌≡◌, ℕ, ◌^◌, ◌+◌, ◌-◌, ◌*◌, ◌≤◌, nat_le, nat_lt, Bool, true, false, ◌&&◌, cond, List, [], ◌∷◌, ◌++◌, length, Option, Some, None, Result, Ok, Err, IfOk, refl, subst, arith, codes}
 use Rattle.std.specs.Str.{bytes_eq}
 use Rattle.std.specs.Option.{ok_or, option_and_then}
 use Rattle.std.proofs.lemmas.Bool.Decides.{nat_tests}
@@ -13,7 +13,7 @@ use Rattle.line_text.specs.declared.command.Command.{Command}
 use Rattle.line_text.specs.Number.{number_of, within}
 use Rattle.line_text.specs.Lines.{kept_lines}
 use Rattle.line_text.specs.Hex.{hex_bytes, hex_digit}
-use Rattle.line_text.specs.Script.{◌>>=◌, Commands, Refusal, number, segment, client, moment, first_page, page_count, page_limit, is_critical, byte_place, byte_count, bytes, grant, lock, unlock, write, read, try_purge, back, reduce, enforce, pressure, limit, remove, granted, manager_command, named_command, command_of, next_command, is_one_too_many, at_line, commands_after, script_of}
+use Rattle.line_text.specs.Script.{◌>>=◌, Commands, number, segment, client, moment, first_page, page_count, page_limit, is_critical, byte_place, byte_count, bytes, grant, lock, unlock, write, read, try_purge, back, reduce, enforce, pressure, limit, remove, granted, manager_command, named_command, command_of, next_command, is_one_too_many, at_line, commands_after, script_of}
 use Rattle.line_text.specs.Ranges.{IsBetween, IsClient, IsLimit, IsFirstPage, IsPageCount, IsBytePlace, IsByteCount, IsInRange, AreInRange}
 
 -- what a second step gives is well, where it is for all that the first may give

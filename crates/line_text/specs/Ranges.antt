@@ -16,7 +16,7 @@ IsBetween least most n = (least ≤ n) × (n ≤ most)
 abbrev pub IsClient : ℕ → Type 0
 IsClient client = IsBetween 1 LAST_CLIENT client
 
--- a limit of pages
+-- a limit of the manager, in pages
 abbrev pub IsLimit : ℕ → Type 0
 IsLimit limit = IsBetween 0 MOST_LIMIT limit
 

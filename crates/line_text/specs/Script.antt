@@ -53,7 +53,7 @@ page_count word = number word 1 MOST_SEGMENT_PAGES
 abbrev pub page_limit : List ℕ → Result ℕ Cause
 page_limit word = number word 0 MOST_LIMIT
 
--- whether want of memory is critical
+-- whether pressure is critical: `critical` or `moderate`
 abbrev pub is_critical : List ℕ → Result Bool Cause
 is_critical word =
     if bytes_eq word (codes "critical") then Ok true
@@ -128,14 +128,14 @@ try_purge (s ∷ t ∷ []) = do
   Ok (Try id at)
 try_purge words = Err cause.Count
 
--- `back` S: gives the segment S back
+-- `back` S: the segment S is given back
 abbrev pub back : List (List ℕ) → Result Command Cause
 back (s ∷ []) = do
   id ← segment s
   Ok (Back id)
 back words = Err cause.Count
 
--- `reduce` L T: reduces the granted pages to L, at T
+-- `reduce` L T: granted pages are reduced to L, at T
 abbrev pub reduce : List (List ℕ) → Result Command Cause
 reduce (l ∷ t ∷ []) = do
   limit ← page_limit l
@@ -143,14 +143,14 @@ reduce (l ∷ t ∷ []) = do
   Ok (Reduce limit at)
 reduce words = Err cause.Count
 
--- `enforce` T: reduces the granted pages to the manager's limit, at T
+-- `enforce` T: granted pages are reduced to the manager's limit, at T
 abbrev pub enforce : List (List ℕ) → Result Command Cause
 enforce (t ∷ []) = do
   at ← moment t
   Ok (Enforce at)
 enforce words = Err cause.Count
 
--- `pressure` `moderate` T or `pressure` `critical` T: want of memory, at T
+-- `pressure` W T: moderate or critical pressure, by the word W, at T
 abbrev pub pressure : List (List ℕ) → Result Command Cause
 pressure (w ∷ t ∷ []) = do
   critical ← is_critical w
@@ -158,7 +158,7 @@ pressure (w ∷ t ∷ []) = do
   Ok (Pressure critical at)
 pressure words = Err cause.Count
 
--- `limit` L T: sets the manager's limit to L and reduces the granted pages to it, at T
+-- `limit` L T: L becomes the manager's limit, and granted pages are reduced to it, at T
 abbrev pub limit : List (List ℕ) → Result Command Cause
 limit (l ∷ t ∷ []) = do
   pages ← page_limit l
@@ -166,14 +166,14 @@ limit (l ∷ t ∷ []) = do
   Ok (Limit pages at)
 limit words = Err cause.Count
 
--- `remove` C: removes the client C
+-- `remove` C: each segment of the client C is counted off
 abbrev pub remove : List (List ℕ) → Result Command Cause
 remove (c ∷ []) = do
   owner ← client c
   Ok (Remove owner)
 remove words = Err cause.Count
 
--- `granted`: asks for the number of granted pages
+-- `granted`: how many pages are granted
 abbrev pub granted : List (List ℕ) → Result Command Cause
 granted [] = Ok Granted
 granted words = Err cause.Count

@@ -43,34 +43,36 @@ pub enum Command {
         id: u64,
         at: u64,
     },
-    /// Gives a segment back.
+    /// Gives a segment back, and the manager counts it off.
     Back {
         id: u64,
     },
-    /// Reduces the granted pages to a limit, at a moment.
+    /// Reduces granted pages to a limit, from 0 to 1,048,576 pages, at a moment.
     Reduce {
         limit: u64,
         at: u64,
     },
-    /// Reduces the granted pages to the manager's limit, at a moment.
+    /// Reduces granted pages to the manager's limit, at a moment.
     Enforce {
         at: u64,
     },
-    /// Tells the manager of want of memory, critical or moderate, at a moment.
+    /// Reduces granted pages at a moment: to 0 under critical pressure, and to half the manager's
+    /// limit under moderate pressure.
     Pressure {
         critical: bool,
         at: u64,
     },
-    /// Sets the manager's limit, from 0 to 1,048,576 pages, and reduces to it, at a moment.
+    /// Sets the manager's limit, from 0 to 1,048,576 pages, and reduces granted pages to it, at a
+    /// moment.
     Limit {
         limit: u64,
         at: u64,
     },
-    /// Removes a client.
+    /// Counts off each segment of a client from 1 to 64.
     Remove {
         client: u64,
     },
-    /// Asks for the number of granted pages.
+    /// Asks how many pages are granted.
     Granted,
 }
 

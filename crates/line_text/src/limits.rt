@@ -17,7 +17,7 @@ pub const LAST_CLIENT: u64 = 64;
 /// How many pages a segment of a script has at most: 2 MiB.
 pub const MOST_SEGMENT_PAGES: u64 = 512;
 
-/// How many pages a limit has at most: 4 GiB.
+/// How many pages a manager's limit has at most: 4 GiB.
 pub const MOST_LIMIT: u64 = 1_048_576;
 
 /// How many bytes a `write` or `read` asks for at most.

@@ -130,7 +130,7 @@ unfolding is_begun pages_of is_ended is_gone is_held stamp_of known_of left_of
 lock_sound h s first count false gone e g w = misuse_sound h (Lock s first count) s w
 lock_sound h s first count true true e g w =
     same_sound h ((Lock s first count, Gone) ∷ h) s refl refl refl (λ page. refl) refl
-    (λ u. record { begun = u.begun; held = u.held; stamp = u.stamp; known = u.known; gone = u.gone; ended = u.ended }) w
+    (λ u. record { begun = u.begun; pages = u.pages; held = u.held; stamp = u.stamp; known = u.known; gone = u.gone; ended = u.ended }) w
 lock_sound h s first count true false e g w =
     let parts = lock_parts h s first count e in
     let held : (page : ℕ) → is_held ((Lock s first count, Held) ∷ h) s page ≡ (is_within first count page || is_held h s page)

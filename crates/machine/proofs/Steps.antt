@@ -1,5 +1,6 @@
 -- What each answered event on a segment makes of it.
-use Rattle.std.proofs.Common.{◌≡◌, ℕ, ◌==◌, ◌*◌, nat_lt, max, Bool, true, false, not, ◌&&◌, ◌||◌, cond, List, ◌∷◌, length, get_or, Some, None, replicate, refl, sym, ap, ◌∙◌, eq-eqb}
+use Rattle.std.proofs.Common.{◌≡◌, ℕ, ◌==◌, ◌*◌, nat_lt, max, Bool, true, false, true≢false, not, ◌&&◌, ◌||◌, cond, List, [], ◌∷◌, length, get_or, Some, None, replicate, refl, sym, ap, ◌∙◌, eq-eqb}
+use Rattle.std.proofs.lemmas.Bool.{and_parts}
 use Rattle.units.specs.declared.TheConstants.{PAGE}
 use Rattle.machine.specs.declared.event.Event.TheVariants.{Grant, Lock, Unlock, Write, Try, Back}
 use Rattle.machine.specs.declared.event.Answer.TheVariants.{Granted, Held, Gone, Idle, StillHeld, Written, Taken, Used, Counted, Purged}
@@ -18,11 +19,11 @@ pub shows_grant : (h : History) (s client pages : ℕ) (kept : Kept) → IsUnkno
 unfolding is_begun pages_of is_ended is_gone is_held stamp_of known_of left_of
 shows_grant h s client pages kept w sized held stamp known bytes gone ended = record {
   begun = ap (λ b. b || is_begun h s) (same s);
-  pages = sized ∙ sym (ap (λ b. cond b pages (pages_of h s)) (same s));
-  held = λ page. held page ∙ sym (ap (λ b. cond b (nat_lt page pages) (is_held h s page)) (same s));
+  pages = λ plain. sized ∙ sym (ap (λ b. cond b pages (pages_of h s)) (same s));
+  held = λ plain page. held page ∙ sym (ap (λ b. cond b (nat_lt page pages) (is_held h s page)) (same s));
   stamp = stamp ∙ sym w.stamp;
   known = known ∙ sym w.known;
-  bytes = bytes ∙ sym (ap (λ b. cond b (replicate (PAGE * pages) 0) (left_of h s)) (same s));
+  bytes = λ live. bytes ∙ sym (ap (λ b. cond b (replicate (PAGE * pages) 0) (left_of h s)) (same s));
   gone = gone ∙ sym w.gone;
   ended = ended ∙ sym w.ended;
 }
@@ -38,9 +39,9 @@ pub shows_lock : (h : History) (s first count : ℕ) (kept : Kept) (held : List 
 unfolding is_begun pages_of is_ended is_gone is_held stamp_of known_of left_of
 shows_lock h s first count kept held w sized written = record {
   begun = w.begun;
-  pages = sized ∙ w.pages;
-  held = λ page. written page ∙ held_or (is_within first count page) (get_or kept.held page false)
-      ∙ ap (λ b. is_within first count page || b) (w.held page)
+  pages = λ plain. sized ∙ w.pages plain;
+  held = λ plain page. written page ∙ held_or (is_within first count page) (get_or kept.held page false)
+      ∙ ap (λ b. is_within first count page || b) (w.held plain page)
       ∙ sym (ap (λ b. b && is_within first count page || is_held h s page) (same s));
   stamp = w.stamp;
   known = w.known;
@@ -64,9 +65,9 @@ pub shows_still_held : (h : History) (s first count at stay : ℕ) (kept : Kept)
 unfolding is_begun pages_of is_ended is_gone is_held stamp_of known_of left_of
 shows_still_held h s first count at stay kept held w sized written = record {
   begun = w.begun;
-  pages = sized ∙ w.pages;
-  held = λ page. written page ∙ held_not (is_within first count page) (get_or kept.held page false)
-      ∙ ap (λ b. not (is_within first count page) && b) (w.held page)
+  pages = λ plain. sized ∙ w.pages plain;
+  held = λ plain page. written page ∙ held_not (is_within first count page) (get_or kept.held page false)
+      ∙ ap (λ b. not (is_within first count page) && b) (w.held plain page)
       ∙ sym (ap (λ b. not (b && is_within first count page) && is_held h s page) (same s));
   stamp = w.stamp;
   known = w.known;
@@ -81,9 +82,9 @@ pub shows_idle : (h : History) (s first count at stamp : ℕ) (kept : Kept) (hel
 unfolding is_begun pages_of is_ended is_gone is_held stamp_of known_of left_of
 shows_idle h s first count at stamp kept held w sized written later = record {
   begun = w.begun;
-  pages = sized ∙ w.pages;
-  held = λ page. written page ∙ held_not (is_within first count page) (get_or kept.held page false)
-      ∙ ap (λ b. not (is_within first count page) && b) (w.held page)
+  pages = λ plain. sized ∙ w.pages plain;
+  held = λ plain page. written page ∙ held_not (is_within first count page) (get_or kept.held page false)
+      ∙ ap (λ b. not (is_within first count page) && b) (w.held plain page)
       ∙ sym (ap (λ b. not (b && is_within first count page) && is_held h s page) (same s));
   stamp = later ∙ ap (λ t. max t at) w.stamp ∙ sym (ap (λ b. cond b (max (stamp_of h s) at) (stamp_of h s)) (same s));
   known = w.known;
@@ -101,12 +102,19 @@ shows_write h s place bytes kept after w written = record {
   held = w.held;
   stamp = w.stamp;
   known = w.known;
-  bytes = written ∙ ap (λ old. put place bytes old) w.bytes ∙ sym (ap (λ b. cond b (put place bytes (left_of h s)) (left_of h s)) (same s));
+  bytes = λ live. written ∙ ap (λ old. put place bytes old) (w.bytes live) ∙ sym (ap (λ b. cond b (put place bytes (left_of h s)) (left_of h s)) (same s));
   gone = w.gone;
   ended = w.ended;
 }
 
-pub shows_taken : (h : History) (s now : ℕ) (kept : Kept) → Shows h s kept → Shows ((Try s now, Taken) ∷ h) s (record kept { gone = true })
+-- a test that fails where another passes
+and_not : (a b : Bool) → b ≡ true → (a && not b) ≡ true → ⊥
+and_not true true passes e = true≢false (sym e)
+and_not false b passes e = true≢false (sym e)
+and_not true false passes e = true≢false (sym passes)
+
+-- a purge lets the bytes go
+pub shows_taken : (h : History) (s now : ℕ) (kept : Kept) → Shows h s kept → Shows ((Try s now, Taken) ∷ h) s (record kept { bytes = []; gone = true })
 unfolding is_begun pages_of is_ended is_gone is_held stamp_of known_of left_of
 shows_taken h s now kept w = record {
   begun = w.begun;
@@ -114,7 +122,7 @@ shows_taken h s now kept w = record {
   held = w.held;
   stamp = w.stamp;
   known = w.known;
-  bytes = w.bytes;
+  bytes = λ live. absurd (and_not (is_begun h s && not (is_ended h s)) (s == s || is_gone h s) (ap (λ b. b || is_gone h s) (same s)) live);
   gone = sym (ap (λ b. b || is_gone h s) (same s));
   ended = w.ended;
 }
@@ -132,28 +140,36 @@ shows_used h s now found kept w = record {
   ended = w.ended;
 }
 
-pub shows_counted : (h : History) (s : ℕ) (kept : Kept) → Shows h s kept → Shows ((Back s, Counted) ∷ h) s (record kept { ended = true })
+-- a segment that was given back is not plain
+not_plain_after : (h : History) (s : ℕ) → (is_begun h s && not (s == s || is_ended h s)) ≡ true → ⊥
+not_plain_after h s = and_not (is_begun h s) (s == s || is_ended h s) (ap (λ b. b || is_ended h s) (same s))
+
+-- nor live
+not_live_after : (h : History) (s : ℕ) → ((is_begun h s && not (s == s || is_ended h s)) && not (is_gone h s)) ≡ true → ⊥
+not_live_after h s live = not_plain_after h s (and_parts (is_begun h s && not (s == s || is_ended h s)) (not (is_gone h s)) live).0
+
+pub shows_counted : (h : History) (s : ℕ) (kept : Kept) → Shows h s kept → Shows ((Back s, Counted) ∷ h) s (record kept { held = []; bytes = []; ended = true })
 unfolding is_begun pages_of is_ended is_gone is_held stamp_of known_of left_of
 shows_counted h s kept w = record {
   begun = w.begun;
-  pages = w.pages;
-  held = w.held;
+  pages = λ plain. absurd (not_plain_after h s plain);
+  held = λ plain page. absurd (not_plain_after h s plain);
   stamp = w.stamp;
   known = w.known;
-  bytes = w.bytes;
+  bytes = λ live. absurd (not_live_after h s live);
   gone = w.gone;
   ended = sym (ap (λ b. b || is_ended h s) (same s));
 }
 
-pub shows_purged : (h : History) (s : ℕ) (kept : Kept) → Shows h s kept → Shows ((Back s, Purged) ∷ h) s (record kept { ended = true })
+pub shows_purged : (h : History) (s : ℕ) (kept : Kept) → Shows h s kept → Shows ((Back s, Purged) ∷ h) s (record kept { held = []; bytes = []; ended = true })
 unfolding is_begun pages_of is_ended is_gone is_held stamp_of known_of left_of
 shows_purged h s kept w = record {
   begun = w.begun;
-  pages = w.pages;
-  held = w.held;
+  pages = λ plain. absurd (not_plain_after h s plain);
+  held = λ plain page. absurd (not_plain_after h s plain);
   stamp = w.stamp;
   known = w.known;
-  bytes = w.bytes;
+  bytes = λ live. absurd (not_live_after h s live);
   gone = w.gone;
   ended = sym (ap (λ b. b || is_ended h s) (same s));
 }

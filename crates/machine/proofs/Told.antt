@@ -1,15 +1,16 @@
 -- The segment's own tests are those of the history.
 use Rattle.std.proofs.Common.{◌≡◌, ℕ, ◌+◌, ◌-◌, ◌<◌, ◌≤◌, nat_lt, nat_le, max, Bool, true, false, not, ◌&&◌, ◌||◌, cond, List, [], length, get_or, unwrap_or, refl, sym, ap, ◌∙◌, arith, count_by, zero-add, add-zero, ◌++◌, take, drop}
 use Rattle.std.specs.List.{range_with_len}
+use Rattle.std.proofs.lemmas.Bool.{and_parts}
 use Rattle.std.proofs.lemmas.Bool.Decides.{nat_tests}
-use Rattle.std.proofs.Math.Bool.{and-true as and_true_right, and-false as and_false_right}
+use Rattle.std.proofs.Math.Bool.{and-true as and_true_right}
 use Rattle.std.proofs.lemmas.List.{get_or_past, take-append-drop, append-nil}
 use Rattle.units.specs.declared.TheConstants.{MOST_PAGES}
 use Rattle.machine.specs.declared.event.Event.TheVariants.{Grant, Lock, Unlock, Write, Try, Back}
 use Rattle.machine.specs.declared.event.Answer.TheVariants.{Granted, Held, Gone, Written, Counted, Purged, Misuse}
 use Rattle.machine.specs.History.{History, is_begun, pages_of, is_ended, is_gone, is_held, stamp_of, known_of, put}
 use Rattle.units.specs.Range.{is_within}
-use Rattle.machine.specs.Answers.{is_plain, can_lock, can_unlock, can_write, can_try, are_free, are_held, bytes_held, held_count, staying, unlocked, tried, answer_of}
+use Rattle.machine.specs.Answers.{is_plain, is_live, can_lock, can_unlock, can_write, can_try, are_free, are_held, bytes_held, held_count, staying, unlocked, tried, answer_of}
 use Rattle.units.specs.Moment.{is_moment}
 use Rattle.machine.specs.Kept.{Kept}
 use Rattle.machine.specs.Segments.{Shows}
@@ -28,12 +29,12 @@ and_last : (a b : Bool) → b ≡ true → (a && b) ≡ a
 and_last a true p = and_true_right a
 and_last a false p = cc
 
-plain_told : (h : History) (s : ℕ) (kept : Kept) → Shows h s kept → kept.ended ≡ false → is_plain h s ≡ true
+pub plain_told : (h : History) (s : ℕ) (kept : Kept) → Shows h s kept → kept.ended ≡ false → is_plain h s ≡ true
 plain_told h s kept w e = and_true (is_begun h s) (not (is_ended h s)) w.begun (ap not (sym w.ended ∙ e))
 
--- the flags of a segment tell which pages are held
-pub flags_told : (h : History) (s : ℕ) (kept : Kept) (flags : List Bool) → Shows h s kept → kept.held ≡ flags → (page : ℕ) → get_or flags page false ≡ is_held h s page
-flags_told h s kept flags w same page = ap (λ xs. get_or xs page false) (sym same) ∙ w.held page
+-- the flags of a plain segment tell which pages are held
+pub flags_told : (h : History) (s : ℕ) (kept : Kept) (flags : List Bool) → Shows h s kept → is_plain h s ≡ true → kept.held ≡ flags → (page : ℕ) → get_or flags page false ≡ is_held h s page
+flags_told h s kept flags w plain same page = ap (λ xs. get_or xs page false) (sym same) ∙ w.held plain page
 
 -- the pages that they tell to be free are free
 pub free_told : (h : History) (s first count : ℕ) (flags : List Bool) (r : Bool) → ((page : ℕ) → get_or flags page false ≡ is_held h s page)
@@ -58,18 +59,18 @@ held_told h s first count flags false told all some =
     one_fails (λ page. is_held h s page) first count found.0 found.1 found.2 (sym (told found.0) ∙ found.3)
 
 -- a page past the end is not held
-pub past_the_end : (h : History) (s first count : ℕ) (kept : Kept) → Shows h s kept → 0 < count → length kept.held < first + count → are_held h s first count ≡ false
-past_the_end h s first count kept w more far =
+pub past_the_end : (h : History) (s first count : ℕ) (kept : Kept) → Shows h s kept → is_plain h s ≡ true → 0 < count → length kept.held < first + count → are_held h s first count ≡ false
+past_the_end h s first count kept w plain more far =
     let low : first ≤ first + count - 1 = omega arith in
     let high : first + count - 1 < first + count = omega arith in
     let end : length kept.held ≤ first + count - 1 = omega arith in
     one_fails (λ page. is_held h s page) first count (first + count - 1) low high
-    (sym (w.held (first + count - 1)) ∙ get_or_past kept.held (first + count - 1) false end)
+    (sym (w.held plain (first + count - 1)) ∙ get_or_past kept.held (first + count - 1) false end)
 
 pub lock_told : (h : History) (s first count : ℕ) (kept : Kept) (r : Bool) → Shows h s kept → kept.ended ≡ false → 0 < count → first + count ≤ length kept.held
     → are_free h s first count ≡ r → r ≡ can_lock h s first count
 lock_told h s first count kept r w plain some inside free =
-    let pages = w.pages in
+    let pages = w.pages (plain_told h s kept w plain) in
     let more : nat_lt 0 count ≡ true = grind (arith, nat_tests) in
     let within : nat_le (first + count) (pages_of h s) ≡ true = grind (arith, nat_tests) in
     sym (and_is (is_plain h s && nat_lt 0 count && nat_le (first + count) (pages_of h s)) (are_free h s first count) r
@@ -105,14 +106,14 @@ unlock_answer h s first count at stay kept w e n =
     ∙ ap (λ b. cond b (unlocked (staying h s first count) (max (stamp_of h s) at)) Misuse) e
 
 -- how many pages stay held is how many flags are left
-pub staying_told : (h : History) (s first count : ℕ) (kept : Kept) (flags : List Bool) → Shows h s kept → length flags ≡ length kept.held
+pub staying_told : (h : History) (s first count : ℕ) (kept : Kept) (flags : List Bool) → Shows h s kept → is_plain h s ≡ true → length flags ≡ length kept.held
     → ((page : ℕ) → get_or flags page false ≡ cond (is_within first count page) false (get_or kept.held page false))
     → staying h s first count ≡ count_by (λ b. b) flags
-staying_told h s first count kept flags w sized written =
-    ap (λ n. count_by (λ page. is_held h s page && not (is_within first count page)) (range_with_len 0 n)) (sym w.pages ∙ sym sized)
+staying_told h s first count kept flags w plain sized written =
+    ap (λ n. count_by (λ page. is_held h s page && not (is_within first count page)) (range_with_len 0 n)) (sym (w.pages plain) ∙ sym sized)
     ∙ counted_flags (λ page. is_held h s page && not (is_within first count page)) 0 flags
     (λ page. written page ∙ taken_out (is_within first count page) (get_or kept.held page false)
-    ∙ ap (λ b. b && not (is_within first count page)) (w.held page)
+    ∙ ap (λ b. b && not (is_within first count page)) (w.held plain page)
     ∙ ap (λ p. is_held h s p && not (is_within first count p)) (sym (zero-add page)))
   where
     taken_out : (within was : Bool) → cond within false was ≡ (was && not within)
@@ -129,29 +130,36 @@ pub write_answer : (h : History) (s place : ℕ) (bytes : List ℕ) → can_writ
 unfolding answer_of
 write_answer h s place bytes e = sym (ap (λ b. cond b Written Misuse) e)
 
--- a segment that is given back is not plain
-pub not_plain : (h : History) (s : ℕ) (kept : Kept) → Shows h s kept → kept.ended ≡ true → is_plain h s ≡ false
-not_plain h s kept w e = ap (λ b. is_begun h s && not b) (sym w.ended ∙ e) ∙ and_false_right (is_begun h s)
+-- what is told of the pages of a segment that is not given back is told of it
+pub plain_holds : (h : History) (s place count : ℕ) (kept : Kept) (r : Bool) → Shows h s kept → kept.ended ≡ false → r ≡ bytes_held h s place count → r ≡ (is_plain h s && bytes_held h s place count)
+plain_holds h s place count kept r w plain e = sym (and_is (is_plain h s) (bytes_held h s place count) r (plain_told h s kept w plain) (sym e))
 
-pub write_told : (h : History) (s place : ℕ) (bytes : List ℕ) (kept : Kept) (r : Bool) → Shows h s kept → kept.ended ≡ false → r ≡ bytes_held h s place (length bytes) → can_write h s place bytes ≡ r
-write_told h s place bytes kept r w plain e = and_is (is_plain h s) (bytes_held h s place (length bytes)) r (plain_told h s kept w plain) (sym e)
+-- the pages that an Unlock is about are those of a plain segment
+pub unlock_plain : (h : History) (s first count at : ℕ) → true ≡ can_unlock h s first count at → is_plain h s ≡ true
+unlock_plain h s first count at e =
+    let inside = (and_parts (is_plain h s && nat_lt 0 count && are_held h s first count) (is_moment at) (sym e)).0 in
+    (and_parts (is_plain h s) (nat_lt 0 count) (and_parts (is_plain h s && nat_lt 0 count) (are_held h s first count) inside).0).0
 
 pub try_misuse : (h : History) (s now : ℕ) → false ≡ can_try h s now → Misuse ≡ answer_of h (Try s now)
 unfolding answer_of
 try_misuse h s now e = ap (λ b. cond b (tried (nat_lt 0 (held_count h s (λ page. true))) (stamp_of h s) (unwrap_or (known_of h s) 0) now) Misuse) e
 
 -- how many pages are held is how many flags are set
-pub held_all_told : (h : History) (s : ℕ) (kept : Kept) → Shows h s kept → held_count h s (λ page. true) ≡ count_by (λ b. b) kept.held
-held_all_told h s kept w =
-    ap (λ n. count_by (λ page. is_held h s page && true) (range_with_len 0 n)) (sym w.pages)
+pub held_all_told : (h : History) (s : ℕ) (kept : Kept) → Shows h s kept → is_plain h s ≡ true → held_count h s (λ page. true) ≡ count_by (λ b. b) kept.held
+held_all_told h s kept w plain =
+    ap (λ n. count_by (λ page. is_held h s page && true) (range_with_len 0 n)) (sym (w.pages plain))
     ∙ counted_flags (λ page. is_held h s page && true) 0 kept.held
-    (λ page. w.held page ∙ sym (and_true_right (is_held h s page)) ∙ ap (λ p. is_held h s p && true) (sym (zero-add page)))
+    (λ page. w.held plain page ∙ sym (and_true_right (is_held h s page)) ∙ ap (λ p. is_held h s p && true) (sym (zero-add page)))
+
+-- a purge try is about a plain segment
+try_plain : (h : History) (s now : ℕ) → true ≡ can_try h s now → is_plain h s ≡ true
+try_plain h s now e = (and_parts (is_plain h s) (not (is_gone h s)) (and_parts (is_live h s) (is_moment now) (sym e)).0).0
 
 pub try_answer : (h : History) (s now : ℕ) (kept : Kept) → Shows h s kept → true ≡ can_try h s now
     → tried (nat_lt 0 (count_by (λ b. b) kept.held)) kept.stamp (unwrap_or kept.known 0) now ≡ answer_of h (Try s now)
 unfolding answer_of
 try_answer h s now kept w e =
-    ap (λ n. tried (nat_lt 0 n) kept.stamp (unwrap_or kept.known 0) now) (sym (held_all_told h s kept w))
+    ap (λ n. tried (nat_lt 0 n) kept.stamp (unwrap_or kept.known 0) now) (sym (held_all_told h s kept w (try_plain h s now e)))
     ∙ ap (λ t. tried (nat_lt 0 (held_count h s (λ page. true))) t (unwrap_or kept.known 0) now) w.stamp
     ∙ ap (λ k. tried (nat_lt 0 (held_count h s (λ page. true))) (stamp_of h s) (unwrap_or k 0) now) w.known
     ∙ ap (λ b. cond b (tried (nat_lt 0 (held_count h s (λ page. true))) (stamp_of h s) (unwrap_or (known_of h s) 0) now) Misuse) e

@@ -7,6 +7,7 @@ use Rattle.machine.specs.declared.event.Answer.{Answer}
 use Rattle.machine.specs.declared.event.Answer.TheVariants.{Granted, Held, Idle, StillHeld, Written, Taken, Used, Counted, Purged, Misuse}
 use Rattle.machine.specs.History.{History, is_begun, pages_of, is_ended, is_gone, is_held, stamp_of, known_of, put, left_of, number_of}
 use Rattle.units.specs.Range.{is_within}
+use Rattle.machine.specs.Answers.{is_plain, is_live}
 use Rattle.machine.specs.Kept.{Kept}
 use Rattle.machine.specs.Segments.{Shows, IsUnknown}
 
@@ -55,14 +56,22 @@ left_other h (Grant id client pages) (Granted drawn) s ne = ap (λ b. cond b (re
 left_other h (Write id place bytes) Written s ne = ap (λ b. cond b (put place bytes (left_of h s)) (left_of h s)) ne
 left_other h _ _ s ne = refl
 
+pub plain_other : (h : History) (e : Event) (a : Answer) (s : ℕ) → (number_of e == s) ≡ false → is_plain ((e, a) ∷ h) s ≡ is_plain h s
+plain_other h e a s ne =
+    ap (λ b. b && not (is_ended ((e, a) ∷ h) s)) (begun_other h e a s ne) ∙ ap (λ b. is_begun h s && not b) (ended_other h e a s ne)
+
+pub live_other : (h : History) (e : Event) (a : Answer) (s : ℕ) → (number_of e == s) ≡ false → is_live ((e, a) ∷ h) s ≡ is_live h s
+live_other h e a s ne =
+    ap (λ b. b && not (is_gone ((e, a) ∷ h) s)) (plain_other h e a s ne) ∙ ap (λ b. is_plain h s && not b) (gone_other h e a s ne)
+
 pub shows_other : (h : History) (e : Event) (a : Answer) (s : ℕ) (kept : Kept) → (number_of e == s) ≡ false → Shows h s kept → Shows ((e, a) ∷ h) s kept
 shows_other h e a s kept ne w = record {
   begun = begun_other h e a s ne ∙ w.begun;
-  pages = w.pages ∙ sym (pages_other h e a s ne);
-  held = λ page. w.held page ∙ sym (held_other h e a s page ne);
+  pages = λ plain. w.pages (sym (plain_other h e a s ne) ∙ plain) ∙ sym (pages_other h e a s ne);
+  held = λ plain page. w.held (sym (plain_other h e a s ne) ∙ plain) page ∙ sym (held_other h e a s page ne);
   stamp = w.stamp ∙ sym (stamp_other h e a s ne);
   known = w.known ∙ sym (known_other h e a s ne);
-  bytes = w.bytes ∙ sym (left_other h e a s ne);
+  bytes = λ live. w.bytes (sym (live_other h e a s ne) ∙ live) ∙ sym (left_other h e a s ne);
   gone = w.gone ∙ sym (gone_other h e a s ne);
   ended = w.ended ∙ sym (ended_other h e a s ne);
 }
@@ -70,6 +79,7 @@ shows_other h e a s kept ne w = record {
 pub unknown_other : (h : History) (e : Event) (a : Answer) (s : ℕ) → (number_of e == s) ≡ false → IsUnknown h s → IsUnknown ((e, a) ∷ h) s
 unknown_other h e a s ne w = record {
   begun = begun_other h e a s ne ∙ w.begun;
+  pages = pages_other h e a s ne ∙ w.pages;
   held = λ page. held_other h e a s page ne ∙ w.held page;
   stamp = stamp_other h e a s ne ∙ w.stamp;
   known = known_other h e a s ne ∙ w.known;
@@ -84,5 +94,5 @@ shows_misuse h _ s kept w = record { begun = w.begun; pages = w.pages; held = w.
 
 pub unknown_misuse : (h : History) (e : Event) (s : ℕ) → IsUnknown h s → IsUnknown ((e, Misuse) ∷ h) s
 unfolding is_begun pages_of is_ended is_gone is_held stamp_of known_of left_of
-unknown_misuse h (Grant id client pages) s w = record { begun = w.begun; held = w.held; stamp = w.stamp; known = w.known; gone = w.gone; ended = w.ended }
-unknown_misuse h _ s w = record { begun = w.begun; held = w.held; stamp = w.stamp; known = w.known; gone = w.gone; ended = w.ended }
+unknown_misuse h (Grant id client pages) s w = record { begun = w.begun; pages = w.pages; held = w.held; stamp = w.stamp; known = w.known; gone = w.gone; ended = w.ended }
+unknown_misuse h _ s w = record { begun = w.begun; pages = w.pages; held = w.held; stamp = w.stamp; known = w.known; gone = w.gone; ended = w.ended }

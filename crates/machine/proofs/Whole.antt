@@ -25,8 +25,8 @@ answered_push h (x ∷ events) e = answered_push ((x, answer_of h x) ∷ h) even
 
 -- before any event no number is known
 pub none_yet : (s : ℕ) → IsUnknown (answered []) s
-unfolding answered_after is_begun is_ended is_gone is_held stamp_of known_of
-none_yet s = record { begun = refl; held = λ page. refl; stamp = refl; known = refl; gone = refl; ended = refl }
+unfolding answered_after is_begun pages_of is_ended is_gone is_held stamp_of known_of
+none_yet s = record { begun = refl; pages = refl; held = λ page. refl; stamp = refl; known = refl; gone = refl; ended = refl }
 
 -- what a history makes of a number, where there is something of it or not
 abbrev pub ShowsAt : History → ℕ → Option Kept → Type 0

@@ -6,7 +6,12 @@ use Rattle.machine.specs.declared.event.Event.TheVariants.{Grant, Lock, Unlock, 
 use Rattle.machine.specs.declared.event.Answer.{Answer}
 use Rattle.machine.specs.declared.event.Answer.TheVariants.{Granted, Held, Gone, Idle, Taken, Counted, Misuse}
 use Rattle.machine.specs.History.{History, number_of, pages_of, client_of, is_ended}
+use Rattle.machine.specs.Segments.{IsUnknown}
 use Rattle.machine.specs.Answers.{answered, answer, begun, held, stamp, gone, left, known, granted}
+
+-- nothing is known of a number that was not granted
+abbrev pub UnknownBeforeGrant : Type 0
+UnknownBeforeGrant = (events : List Event) (s : ℕ) → begun events s ≡ false → IsUnknown (answered events) s
 
 -- a purge try is answered Taken only where no page of the segment is held
 abbrev pub TakenFree : Type 0

@@ -6,22 +6,24 @@ use Rattle.std.specs.Map.{lookup}
 use Rattle.machine.specs.declared.event.Event.{Event}
 use Rattle.machine.specs.History.{History, is_begun, pages_of, is_ended, is_gone, is_held, stamp_of, known_of, left_of}
 use Rattle.machine.specs.Kept.{Kept}
-use Rattle.machine.specs.Answers.{answered}
+use Rattle.machine.specs.Answers.{answered, is_plain, is_live}
 
--- what is kept of a segment is what the history made of it
+-- What is kept of a segment is what the history made of it: the flags of its pages while it is plain, its bytes while
+-- it is live, and the rest for good.
 pub record Shows (h : History) (s : ℕ) (kept : Kept) : Type 0 where
   pub begun : is_begun h s ≡ true
-  pub pages : length kept.held ≡ pages_of h s
-  pub held : (page : ℕ) → slice_index_or kept.held page false ≡ is_held h s page
+  pub pages : is_plain h s ≡ true → length kept.held ≡ pages_of h s
+  pub held : is_plain h s ≡ true → (page : ℕ) → slice_index_or kept.held page false ≡ is_held h s page
   pub stamp : kept.stamp ≡ stamp_of h s
   pub known : kept.known ≡ known_of h s
-  pub bytes : kept.bytes ≡ left_of h s
+  pub bytes : is_live h s ≡ true → kept.bytes ≡ left_of h s
   pub gone : kept.gone ≡ is_gone h s
   pub ended : kept.ended ≡ is_ended h s
 
 -- nothing happened to a number that was not granted
 pub record IsUnknown (h : History) (s : ℕ) : Type 0 where
   pub begun : is_begun h s ≡ false
+  pub pages : pages_of h s ≡ 0
   pub held : (page : ℕ) → is_held h s page ≡ false
   pub stamp : stamp_of h s ≡ 0
   pub known : known_of h s ≡ None

@@ -3,7 +3,13 @@ ghost use Rattle.std.specs.Prelude.{ℕ, List, ◌++◌};
 ghost use Rattle.machine.specs.declared.event.Event.{Event};
 ghost use Rattle.units.specs.Moment.{IsMoment};
 ghost use Rattle.machine.specs.Reduction.{IsReduction, IsReduced, LeavesLive};
-ghost use Rattle.machine.specs.Laws.{TakenFree, GoneStays, LeftStays, StampRises, CountedOnce, MisuseChangesNothing};
+ghost use Rattle.machine.specs.Laws.{UnknownBeforeGrant, TakenFree, GoneStays, LeftStays, StampRises, CountedOnce, MisuseChangesNothing};
+
+/// Nothing is known of a number that was not granted: it has no page and none is held, its stamp is 0 and its known use
+/// none, and it is neither gone nor given back.
+pub fn law_unknown_before_grant()
+    ensures { UnknownBeforeGrant }
+{}
 
 /// A purge try is answered Taken only where no page of the segment is held.
 pub fn law_taken_free()

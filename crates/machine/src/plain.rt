@@ -12,7 +12,8 @@ use std::marker::Model;
 use units::{MOST_PAGES, NoMemory};
 
 /// The segments of a machine of its own, which answers each event as the definition says. It keeps
-/// each granted segment's pages and bytes as they are now, and nothing of the events before.
+/// each granted segment's pages and bytes as they are now, and nothing of the events before. The bytes go once the
+/// segment is purged or given back, and the flags of its pages once it is given back.
 #[derive(Drop)]
 pub struct PlainSegments {
     segments: BTreeMap<u64, Segment>,
@@ -47,7 +48,7 @@ impl PlainSegments {
         ensures same { OnErr result (self.new ≡ self.old) }
     {
         match self.segments.get_mut(&event.id()) {
-            Some(segment) => Ok(segment.step(event)),
+            Some(segment) => Ok(segment.step(alloc, event)),
             None => self.begin(alloc, event),
         }
     }

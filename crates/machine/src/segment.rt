@@ -1,7 +1,7 @@
-ghost use Rattle.std.specs.Prelude.{◌≡◌, ℕ, ◌+◌, ◌*◌, ◌<◌, ◌≤◌, Bool, true, false, not, ◌&&◌, List, ◌∷◌, length, take, drop, IfOk, count_by, slice_index_or};
-ghost use Rattle.machine.specs.History.{History, number_of, put};
+ghost use Rattle.std.specs.Prelude.{◌≡◌, ℕ, ◌+◌, ◌*◌, ◌<◌, ◌≤◌, Bool, true, false, not, ◌&&◌, List, [], ◌∷◌, length, take, drop, IfOk, count_by, slice_index_or};
+ghost use Rattle.machine.specs.History.{History, number_of, left_of, put};
 ghost use Rattle.units.specs.declared.TheConstants.{MOST_PAGES};
-ghost use Rattle.machine.specs.Answers.{answer_of, is_live, can_lock, can_unlock, can_write, can_try, can_give_back, bytes_held};
+ghost use Rattle.machine.specs.Answers.{answer_of, is_plain, is_live, can_lock, can_unlock, can_write, can_try, can_give_back, bytes_held};
 ghost use Rattle.units.specs.Moment.{is_moment};
 ghost use Rattle.machine.specs.Segments.{Shows, fresh};
 
@@ -14,19 +14,20 @@ use units::{NoMemory, PAGE, is_moment};
 /// One granted segment.
 #[derive(Drop)]
 pub(crate) struct Segment {
-    /// For each page, whether it is held.
+    /// For each page, whether it is held. None is kept once the segment is given back.
     held: Vec<bool>,
     /// How many pages are held, so that no call counts them.
     held_count: usize,
     stamp: u64,
     known: Option<u64>,
+    /// None is kept once the segment is purged or given back.
     bytes: Vec<u8>,
     gone: bool,
     ended: bool,
 }
 
 impl Model for Segment {
-    ghost use Rattle.std.specs.Prelude.{◌≡◌, ◌*◌, ◌≤◌, vec_len, count_by};
+    ghost use Rattle.std.specs.Prelude.{◌≡◌, ◌*◌, ◌≤◌, true, if◌then◌else◌, vec_len, vec_capacity, count_by};
     ghost use Rattle.units.specs.declared.TheConstants.{PAGE, MOST_PAGES};
     ghost use Rattle.machine.specs.Kept.{Kept};
 
@@ -35,7 +36,11 @@ impl Model for Segment {
     ghost view = { λ s. record { held = s.held.items; stamp = s.stamp; known = s.known; bytes = s.bytes.items; gone = s.gone; ended = s.ended } };
 
     ghost invariant = { λ s. (s.held_count ≡ count_by (λ b. b) s.held.items)
-        × (vec_len s.bytes ≡ PAGE * vec_len s.held) × (vec_len s.held ≤ MOST_PAGES) };
+        × (vec_len s.bytes ≡ (if s.gone then 0 else PAGE * vec_len s.held))
+        × (vec_len s.held ≤ MOST_PAGES)
+        × (s.gone ≡ true → s.held_count ≡ 0)
+        × (s.gone ≡ true → vec_capacity s.bytes ≡ 0)
+        × (s.ended ≡ true → (vec_capacity s.held ≡ 0) × (vec_capacity s.bytes ≡ 0)) };
 }
 
 impl Segment {
@@ -57,7 +62,7 @@ impl Segment {
     }
 
     /// The machine's answer to an event on this segment, after which the segment is what the event makes of it.
-    pub(crate) fn step(&mut self, event: &Event) -> Answer
+    pub(crate) fn step(&mut self, alloc: Global, event: &Event) -> Answer
         ensures answer { (h : History) (s : ℕ) → Shows h s self.old → number_of event.now ≡ s
             → result ≡ answer_of h event.now }
         ensures after { (h : History) (s : ℕ) → Shows h s self.old → number_of event.now ≡ s
@@ -73,8 +78,8 @@ impl Segment {
                 ..
             } => self.unlock(*first, *count, *at),
             Event::Write { place, bytes, .. } => self.write(*place, bytes.as_slice()),
-            Event::Try { now, .. } => self.try_purge(*now),
-            Event::Back { .. } => self.give_back(),
+            Event::Try { now, .. } => self.try_purge(alloc, *now),
+            Event::Back { .. } => self.give_back(alloc),
         }
     }
 
@@ -93,7 +98,10 @@ impl Segment {
             → slice_index_or self.now.held page false ≡ false }
     {
         let end = u64::from(first) + u64::from(count);
-        if self.ended || count == 0 || end > self.held.len() as u64 {
+        if self.ended || count == 0 {
+            return false;
+        }
+        if end > self.held.len() as u64 {
             return false;
         }
         all_are(&self.held, first as usize, end as usize, false)
@@ -153,12 +161,15 @@ impl Segment {
         Answer::Idle { at: self.stamp }
     }
 
-    /// Whether each byte of a range lies in a held page.
+    /// Whether it is not given back, and each byte of a range lies in a held page.
     fn holds(&self, place: u64, count: u64) -> bool
         ensures told { (h : History) (s : ℕ) → Shows h s self.now
-            → result ≡ bytes_held h s place count }
+            → result ≡ (is_plain h s && bytes_held h s place count) }
         ensures inside { result ≡ true → 0 < count → place + count ≤ length self.now.bytes }
     {
+        if self.ended {
+            return false;
+        }
         let pages = self.held.len() as u64;
         if count == 0 {
             return true;
@@ -180,9 +191,6 @@ impl Segment {
         ensures after { (h : History) (s : ℕ) → Shows h s self.old
             → Shows ((Event.Write s place bytes.now, result) ∷ h) s self.new }
     {
-        if self.ended {
-            return Answer::Misuse;
-        }
         if !self.holds(place, bytes.len() as u64) {
             return Answer::Misuse;
         }
@@ -198,7 +206,7 @@ impl Segment {
         self.is_live() && is_moment(now)
     }
 
-    fn try_purge(&mut self, now: u64) -> Answer
+    fn try_purge(&mut self, alloc: Global, now: u64) -> Answer
         ensures answer { (h : History) (s : ℕ) → Shows h s self.old
             → result ≡ answer_of h (Event.Try s now) }
         ensures after { (h : History) (s : ℕ) → Shows h s self.old
@@ -213,39 +221,50 @@ impl Segment {
         }
         if self.known.unwrap_or(0) == self.stamp {
             self.gone = true;
+            self.bytes = Vec::new(alloc);
             return Answer::Taken;
         }
         self.known = Some(self.stamp);
         Answer::Used { known: self.stamp }
     }
 
-    fn give_back(&mut self) -> Answer
+    fn give_back(&mut self, alloc: Global) -> Answer
         ensures answer { (h : History) (s : ℕ) → Shows h s self.old
             → result ≡ answer_of h (Event.Back s) }
         ensures after { (h : History) (s : ℕ) → Shows h s self.old
             → Shows ((Event.Back s, result) ∷ h) s self.new }
     {
         if self.gone {
-            self.ended = true;
+            self.end(alloc);
             return Answer::Purged;
         }
         if self.ended {
             return Answer::Misuse;
         }
-        self.ended = true;
+        self.end(alloc);
         Answer::Counted
+    }
+
+    /// It is given back: its flags and its bytes go.
+    fn end(&mut self, alloc: Global)
+        ensures { self.new ≡ record self.old { held = []; bytes = []; ended = true } }
+    {
+        self.held = Vec::new(alloc);
+        self.held_count = 0;
+        self.bytes = Vec::new(alloc);
+        self.ended = true;
     }
 
     /// Reads bytes at a place into `out`, where each lies in a held page and the segment is live.
     pub(crate) fn read(&self, place: u64, out: &mut [u8]) -> bool
         ensures shown { (h : History) (s : ℕ) → Shows h s self.now
             → result ≡ (is_live h s && bytes_held h s place (length out.old)) }
-        ensures bytes { result ≡ true
-            → out.new ≡ take (length out.old) (drop place self.now.bytes) }
+        ensures bytes { (h : History) (s : ℕ) → Shows h s self.now → result ≡ true
+            → out.new ≡ take (length out.old) (drop place (left_of h s)) }
         ensures same { result ≡ false → out.new ≡ out.old }
     {
         let count = out.len();
-        if !self.is_live() {
+        if self.gone {
             return false;
         }
         if !self.holds(place, count as u64) {

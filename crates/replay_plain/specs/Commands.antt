@@ -21,11 +21,13 @@ pressed critical limit = if critical then 0 else limit / 2
 abbrev pub after_grant : ReplayState → ℕ → ℕ → ReplayState
 after_grant state client pages = after_event state (next_grant state client pages)
 
+-- the number is that of a client's segment that is granted and not given back
+abbrev pub is_of : ReplayState → ℕ → ℕ → Bool
+is_of state client id = client_of (answered state.events) id == client && plain state.events id
+
 -- the numbers of a client's segments that are granted and not given back, the least first
 abbrev pub numbers_of : ReplayState → ℕ → List ℕ
-numbers_of state client =
-    filter (λ id. client_of (answered state.events) id == client && plain state.events id)
-    (range_with_len 1 (grants_of state))
+numbers_of state client = filter (is_of state client) (range_with_len 1 (grants_of state))
 
 -- the events that give back each segment of a client
 abbrev pub returns_of : ReplayState → ℕ → List Event

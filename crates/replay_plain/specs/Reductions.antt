@@ -1,8 +1,8 @@
 -- A reduction of the granted pages, where nothing happens between its tries.
-use Rattle.std.specs.Prelude.{ℕ, ◌*◌, nat_lt, zero, suc, if◌then◌else◌, List, [], ◌∷◌, ◌++◌, length, Option, option_map, unwrap_or}
+use Rattle.std.specs.Prelude.{ℕ, ◌*◌, nat_lt, zero, suc, if◌then◌else◌, List, [], ◌∷◌, ◌++◌, length, Option, None, option_map, unwrap_or}
 use Rattle.machine.specs.declared.event.Event.{Event}
 use Rattle.machine.specs.declared.event.Event.TheVariants as event
-use Rattle.machine.specs.Answers.{answered, granted}
+use Rattle.machine.specs.Answers.{answered, granted, granted_numbers}
 use Rattle.machine.specs.Reduction.{Candidate, use_of, least, has_ended, candidates}
 use Rattle.discard_book.specs.declared.entry.Entry.{Entry}
 use Rattle.discard_book.specs.declared.entry.Entry.TheVariants as entry
@@ -13,20 +13,26 @@ use Rattle.replay_plain.specs.State.{ReplayState, after_events}
 abbrev pub live_segments : List Event → List Candidate
 live_segments events = candidates (answered events)
 
+-- the number of the segment that a reduction tries next, the least live one, or None where it has
+-- ended
+abbrev pub next_try : ℕ → ℕ → List Event → Option ℕ
+next_try limit now events =
+    if has_ended limit now (live_segments events) then None
+    else option_map (λ c. c.id) (least (live_segments events))
+
 -- The tries of a reduction after these events, at most so many: while it has not ended, a try at
--- its moment on the least live segment.
+-- its moment on the next segment.
 unfoldable pub tries_within : ℕ → ℕ → ℕ → List Event → List Event
 tries_within zero limit now events = []
 tries_within (suc most) limit now events =
-    if has_ended limit now (live_segments events) then []
-    else unwrap_or (option_map (λ c. event.Try c.id now
-    ∷ tries_within most limit now (events ++ event.Try c.id now ∷ []))
-    (least (live_segments events))) []
+    unwrap_or (option_map (λ id. event.Try id now
+    ∷ tries_within most limit now (events ++ event.Try id now ∷ []))
+    (next_try limit now events)) []
 
--- how many tries a reduction makes at most: two for each live segment, since a second one finds
--- what the first one told
+-- how many tries a reduction makes at most: two for each segment that was granted, since a second
+-- one finds what the first one told
 abbrev pub most_tries : List Event → ℕ
-most_tries events = 2 * length (live_segments events)
+most_tries events = 2 * length (granted_numbers (answered events))
 
 -- the tries of a reduction to a limit at a moment after these events, where nothing else happens
 abbrev pub reduction : ℕ → ℕ → List Event → List Event

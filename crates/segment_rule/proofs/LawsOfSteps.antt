@@ -1,23 +1,26 @@
 -- The laws: for every list of events.
-use Rattle.std.proofs.Common.{◌≡◌, ◌≢◌, ℕ, ◌*◌, ◌==◌, ◌≤◌, nat_lt, nat_le, max, ◌⊎◌, inl, inr, ⊎_elim, Bool, true, false, true≢false, not, ◌&&◌, ◌||◌, cond, List, [], ◌∷◌, refl, sym, ap, ◌∙◌, subst, eq-eqb, ne_eqb, arith, replicate}
-use Rattle.std.proofs.lemmas.Bool.{cases_eq}
+use Rattle.std.proofs.Common.{◌≡◌, ◌≢◌, ℕ, ◌*◌, ◌≤◌, nat_lt, nat_le, max, ⊎_elim, Bool, true, false, true≢false, not, ◌&&◌, cond, List, [], ◌∷◌, ◌++◌, refl, sym, ap, ◌∙◌, subst, arith, replicate}
 use Rattle.std.proofs.lemmas.Bool.Decides.{nat_tests}
 use Rattle.units.specs.declared.TheConstants.{PAGE, MOST_PAGES}
 use Rattle.machine.specs.declared.event.Event.{Event}
-use Rattle.machine.specs.declared.event.Event.TheVariants.{Grant, Lock, Unlock, Write, Try, Back}
+use Rattle.machine.specs.declared.event.Event.TheVariants.{Grant, Lock, Unlock, Write, Try}
 use Rattle.machine.specs.declared.event.Answer.{Answer}
 use Rattle.machine.specs.declared.event.Answer.TheVariants as told
-use Rattle.machine.specs.History.{History, is_begun, is_gone, stamp_of, number_of}
+use Rattle.machine.specs.History.{History, is_begun, is_gone, stamp_of}
 use Rattle.machine.specs.Answers.{answered_after, answered, answer_of, can_grant, can_lock, can_unlock, can_write, unlocked, staying}
-use Rattle.machine.specs.Segments.{IsUnknown}
-use Rattle.machine.proofs.Whole.{answered_push, none_yet, unknown_misused}
-use Rattle.machine.proofs.Untouched.{unknown_other, unknown_misuse}
+use Rattle.machine.specs.Laws.{UnknownBeforeGrant}
 use Rattle.segment_rule.specs.Rule.{Segment}
 use Rattle.segment_rule.specs.Views.{known_use}
 use Rattle.segment_rule.specs.Kinds.{LookStays, LookLoses, made}
 use Rattle.segment_rule.specs.Standing.{StandsAfter, Follows}
 use Rattle.segment_rule.specs.Laws.{MakeIsGrant, LockWinIsHeld, LockLossIsGone, UnlockIsIdle, LookIsNone, TryWinIsTaken, TryLossIsUsed, HeldLock, HeldUnlock, HeldWrite}
 use Rattle.segment_rule.proofs.StepsAreEvents.{try_wins, try_loses, lock_wins, lock_loses, look_loses, look_stays, unlocks, make_stands, held_lock, held_unlock, held_write}
+
+-- one more event is answered after those before
+answered_push : (h : History) (events : List Event) (e : Event) → answered_after h (events ++ e ∷ []) ≡ (e, answer_of (answered_after h events) e) ∷ answered_after h events
+unfolding answered_after
+answered_push h [] e = refl
+answered_push h (x ∷ events) e = answered_push ((x, answer_of h x) ∷ h) events e
 
 -- an event that is answered so goes on the events
 follows : (events : List Event) (e : Event) (a : Answer) (after : Segment) (bytes : List ℕ) → answer_of (answered events) e ≡ a → StandsAfter ((e, a) ∷ answered events) after bytes → Follows events e a after bytes
@@ -96,63 +99,6 @@ held_writes events s bytes place piece st law held fine =
     let h = held_write (answered events) s place piece bytes st held (may_write (answered events) s.owner.id place piece fine) in
     follows events (Write s.owner.id place piece) told.Written s _ h.0 h.1
 
--- Nothing happened to a number that was not granted.
-
--- an event that is about the number leaves it unknown or grants it
-grant_begins : (h : History) (s client pages : ℕ) → (answer_of h (Grant s client pages) ≡ told.Misuse) ⊎ (answer_of h (Grant s client pages) ≡ told.Granted s)
-unfolding answer_of
-grant_begins h s client pages = by_can (can_grant h s client pages) refl
-  where
-    by_can : (b : Bool) → can_grant h s client pages ≡ b → (cond (can_grant h s client pages) (told.Granted s) told.Misuse ≡ told.Misuse) ⊎ (cond (can_grant h s client pages) (told.Granted s) told.Misuse ≡ told.Granted s)
-    by_can true is = inr (ap (λ b. cond b (told.Granted s) told.Misuse) is)
-    by_can false is = inl (ap (λ b. cond b (told.Granted s) told.Misuse) is)
-
-begun_after : (h : History) (s client pages : ℕ) → is_begun ((Grant s client pages, told.Granted s) ∷ h) s ≡ true
-unfolding is_begun
-begun_after h s client pages = ap (λ b. b || is_begun h s) (eq-eqb s s refl)
-
-other_begins_none : (h : History) (e : Event) (a : Answer) (s : ℕ) → (number_of e == s) ≡ false → is_begun ((e, a) ∷ h) s ≡ is_begun h s
-unfolding is_begun
-other_begins_none h (Grant id client pages) (told.Granted drawn) s ne = ap (λ b. b || is_begun h s) ne
-other_begins_none h _ _ s ne = refl
-
-abbrev is_grant : Event → Bool
-is_grant (Grant id client pages) = true
-is_grant _ = false
-
--- an event that is no Grant, on a number that is not known, is a misuse and changes nothing
-misused : (h : History) (e : Event) → is_grant e ≡ false → IsUnknown h (number_of e) → IsUnknown ((e, answer_of h e) ∷ h) (number_of e)
-misused h e other w =
-    subst (λ (a : Answer). IsUnknown ((e, a) ∷ h) (number_of e)) (unknown_misused h e w (λ id client pages is. true≢false (sym (ap is_grant is) ∙ other))) (unknown_misuse h e (number_of e) w)
-
-own_event : (h : History) (e : Event) → (is_begun h (number_of e) ≡ false → IsUnknown h (number_of e)) → is_begun ((e, answer_of h e) ∷ h) (number_of e) ≡ false → IsUnknown ((e, answer_of h e) ∷ h) (number_of e)
-unfolding is_begun
-own_event h (Grant id client pages) keep fresh =
-    ⊎_elim
-    (λ (bad : answer_of h (Grant id client pages) ≡ told.Misuse). subst (λ (a : Answer). IsUnknown ((Grant id client pages, a) ∷ h) id) (sym bad)
-    (unknown_misuse h (Grant id client pages) id (keep (subst (λ (a : Answer). is_begun ((Grant id client pages, a) ∷ h) id ≡ false) bad fresh))))
-    (λ (good : answer_of h (Grant id client pages) ≡ told.Granted id).
-    absurd (true≢false (sym (begun_after h id client pages) ∙ subst (λ (a : Answer). is_begun ((Grant id client pages, a) ∷ h) id ≡ false) good fresh)))
-    (grant_begins h id client pages)
-own_event h (Lock id first count) keep fresh = misused h (Lock id first count) refl (keep fresh)
-own_event h (Unlock id first count at) keep fresh = misused h (Unlock id first count at) refl (keep fresh)
-own_event h (Write id place bytes) keep fresh = misused h (Write id place bytes) refl (keep fresh)
-own_event h (Try id now) keep fresh = misused h (Try id now) refl (keep fresh)
-own_event h (Back id) keep fresh = misused h (Back id) refl (keep fresh)
-
-next_event : (h : History) (e : Event) (s : ℕ) → (is_begun h s ≡ false → IsUnknown h s) → is_begun ((e, answer_of h e) ∷ h) s ≡ false → IsUnknown ((e, answer_of h e) ∷ h) s
-next_event h e s keep fresh =
-    ⊎_elim
-    (λ (is : number_of e ≡ s). subst (λ (k : ℕ). (is_begun h k ≡ false → IsUnknown h k) → is_begun ((e, answer_of h e) ∷ h) k ≡ false → IsUnknown ((e, answer_of h e) ∷ h) k) is (own_event h e) keep fresh)
-    (λ (other : number_of e ≢ s). let ne : (number_of e == s) ≡ false = ne_eqb (number_of e) s other in
-    unknown_other h e (answer_of h e) s ne (keep (sym (other_begins_none h e (answer_of h e) s ne) ∙ fresh)))
-    (cases_eq (number_of e) s)
-
-unknown_after : (events : List Event) (h : History) (s : ℕ) → (is_begun h s ≡ false → IsUnknown h s) → is_begun (answered_after h events) s ≡ false → IsUnknown (answered_after h events) s
-unfolding answered_after
-unknown_after [] h s keep fresh = keep fresh
-unknown_after (e ∷ events) h s keep fresh = unknown_after events ((e, answer_of h e) ∷ h) s (next_event h e s keep) fresh
-
 -- what a Grant that is no misuse asks
 may_grant : (h : History) (s client pages : ℕ) → answer_of h (Grant s client pages) ≢ told.Misuse → (is_begun h s ≡ false) × (1 ≤ pages) × (answer_of h (Grant s client pages) ≡ told.Granted s)
 unfolding answer_of
@@ -169,9 +115,8 @@ may_grant h s client pages fine =
     asked false true false d e = absurd (true≢false (sym e))
     asked false true true false e = absurd (true≢false (sym e))
 
-pub make : MakeIsGrant
-unfolding answered_after
-make events id client pages fine =
+pub make : UnknownBeforeGrant → MakeIsGrant
+make unknown events id client pages fine =
     let asked = may_grant (answered events) id client pages fine in
-    let unknown : IsUnknown (answered events) id = unknown_after events [] id (λ _. none_yet id) asked.0 in
-    follows events (Grant id client pages) (told.Granted id) (made id pages) (replicate (PAGE * pages) 0) asked.2 (make_stands (answered events) id client pages unknown asked.1)
+    follows events (Grant id client pages) (told.Granted id) (made id pages) (replicate (PAGE * pages) 0) asked.2
+    (make_stands (answered events) id client pages (unknown events id asked.0) asked.1)

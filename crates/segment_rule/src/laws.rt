@@ -3,10 +3,14 @@
 //! list with the event stands for what the step leaves.
 ghost use Rattle.segment_rule.specs.Laws.{MakeIsGrant, LockWinIsHeld, LockLossIsGone, UnlockIsIdle, LookIsNone, TryWinIsTaken, TryLossIsUsed, HeldLock, HeldUnlock, HeldWrite};
 
+use machine::law_unknown_before_grant;
+
 /// What `make` leaves is granted.
 pub fn law_make()
     ensures { MakeIsGrant }
-{}
+{
+    law_unknown_before_grant();
+}
 
 /// A lock that wins is a Lock that is answered Held.
 pub fn law_lock_wins()

@@ -1,4 +1,4 @@
-use Rattle.std.proofs.Common.{Bool, sym, ap, subst, cond, ◌∙◌}
+use Rattle.std.proofs.Common.{Bool, sym, ap, subst, cond, ◌∙◌, ◌∷◌}
 use Rattle.machine.specs.declared.event.Answer.TheVariants.{Counted, Purged, Misuse}
 use Rattle.machine.specs.declared.event.Event.TheVariants.{Back}
 use Rattle.machine.specs.Kept.{Kept}
@@ -15,7 +15,9 @@ returns-then-self-clause-answer c = λ h s w.
     ∙ back_answer h s (the_view c.self.inside) (subst (λ (k : Kept). Shows h s k) (sym c.self.view_is) w)
 
 pub returns-then-self-clause-after : goal.returns-then-self-clause-after
-returns-then-self-clause-after c = λ h s w. shows_purged h s (the_view c.self.inside) (subst (λ (k : Kept). Shows h s k) (sym c.self.view_is) w)
+returns-then-self-clause-after c = λ h s w.
+    subst (λ (k : Kept). Shows ((Back s, Purged) ∷ h) s k) (sym c.end.ensures)
+    (shows_purged h s c.args.self.now w)
 
 pub returns-then-self-2-clause-answer : goal.returns-then-self-2-clause-answer
 returns-then-self-2-clause-answer c = λ h s w.
@@ -31,4 +33,6 @@ returns-clause-answer c = λ h s w.
     ∙ back_answer h s (the_view c.self.inside) (subst (λ (k : Kept). Shows h s k) (sym c.self.view_is) w)
 
 pub returns-clause-after : goal.returns-clause-after
-returns-clause-after c = λ h s w. shows_counted h s (the_view c.self.inside) (subst (λ (k : Kept). Shows h s k) (sym c.self.view_is) w)
+returns-clause-after c = λ h s w.
+    subst (λ (k : Kept). Shows ((Back s, Counted) ∷ h) s k) (sym c.end-2.ensures)
+    (shows_counted h s c.args.self.now w)

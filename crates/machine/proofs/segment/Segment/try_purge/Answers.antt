@@ -1,4 +1,4 @@
-use Rattle.std.proofs.Common.{◌≡◌, ◌==◌, nat_lt, Bool, true, false, unwrap_or, count_by, sym, ap, subst, cond, ◌∙◌, arith, eq-eqb}
+use Rattle.std.proofs.Common.{◌≡◌, ◌==◌, nat_lt, Bool, true, false, List, ◌∷◌, unwrap_or, count_by, sym, ap, subst, cond, ◌∙◌, arith, eq-eqb, ℕ}
 use Rattle.std.proofs.lemmas.Bool.Decides.{nat_tests}
 use Rattle.std.proofs.lemmas.Bool.{ne_eqb}
 use Rattle.machine.specs.declared.event.Answer.TheVariants.{Taken, Used}
@@ -39,7 +39,10 @@ returns-then-unwrap_or-self-clause-answer c = λ h s w.
     ∙ try_answer h s c.args.now k (subst (λ (k : Kept). Shows h s k) (sym c.self.view_is) w) (c.if-not-can_try.ensures h s w)
 
 pub returns-then-unwrap_or-self-clause-after : goal.returns-then-unwrap_or-self-clause-after
-returns-then-unwrap_or-self-clause-after c = λ h s w. shows_taken h s c.args.now (the_view c.self.inside) (subst (λ (k : Kept). Shows h s k) (sym c.self.view_is) w)
+returns-then-unwrap_or-self-clause-after c = λ h s w.
+    let k = the_view c.self.inside in
+    subst (λ (bytes : List ℕ). Shows ((Try s c.args.now, Taken) ∷ h) s (record k { bytes = bytes; gone = true })) (sym c.new.ensures.items)
+    (shows_taken h s c.args.now k (subst (λ (k : Kept). Shows h s k) (sym c.self.view_is) w))
 
 pub returns-clause-answer : goal.returns-clause-answer
 returns-clause-answer c = λ h s w.

@@ -11,7 +11,7 @@ use Rattle.machine.specs.Segments.{Shows}
 use Rattle.machine.specs.contracts.segment.Segment.{the_view}
 use Rattle.machine.proofs.Untouched.{shows_misuse}
 use Rattle.machine.proofs.Steps.{shows_idle, shows_still_held}
-use Rattle.machine.proofs.Told.{unlock_misuse, unlock_answer, staying_told}
+use Rattle.machine.proofs.Told.{unlock_misuse, unlock_answer, unlock_plain, staying_told}
 use Rattle.machine.proofs.segment.Segment.unlock.Goals as goal
 
 pub returns-then-not-can_unlock-clause-answer : goal.returns-then-not-can_unlock-clause-answer
@@ -37,7 +37,7 @@ returns-then-self-gt0-clause-answer c = λ h s w.
     let flags = c.set_all.new.pages in
     let held : c.deref_mut.result.now ≡ kept.held = c.deref_mut.ensures.value ∙ ap (λ (k : Kept). k.held) c.self.view_is in
     let sized : length flags ≡ length kept.held = c.set_all.auto.pages ∙ ap length held in
-    let stay = staying_told h s c.args.first c.args.count kept flags w sized
+    let stay = staying_told h s c.args.first c.args.count kept flags w (unlock_plain h s c.args.first c.args.count c.args.at (c.if-not-can_unlock.ensures.told h s w)) sized
     (λ page. c.set_all.ensures.after page ∙ ap (λ (xs : List Bool). cond (is_within c.args.first c.args.count page) false (get_or xs page false)) held) in
     let before = ap (λ (xs : List Bool). count_by (λ b. b) xs) c.deref_mut.ensures.value in
     let counted = c.set_all.ensures.counted in
@@ -63,7 +63,7 @@ returns-clause-answer c = λ h s w.
     let flags = c.set_all.new.pages in
     let held : c.deref_mut.result.now ≡ kept.held = c.deref_mut.ensures.value ∙ ap (λ (k : Kept). k.held) c.self.view_is in
     let sized : length flags ≡ length kept.held = c.set_all.auto.pages ∙ ap length held in
-    let stay = staying_told h s c.args.first c.args.count kept flags w sized
+    let stay = staying_told h s c.args.first c.args.count kept flags w (unlock_plain h s c.args.first c.args.count c.args.at (c.if-not-can_unlock.ensures.told h s w)) sized
     (λ page. c.set_all.ensures.after page ∙ ap (λ (xs : List Bool). cond (is_within c.args.first c.args.count page) false (get_or xs page false)) held) in
     let before = ap (λ (xs : List Bool). count_by (λ b. b) xs) c.deref_mut.ensures.value in
     let counted = c.set_all.ensures.counted in

@@ -1,38 +1,27 @@
-use Rattle.std.proofs.Common.{◌≡◌, ◌&&◌, [], true, length, false, sym, ap, subst, ◌∙◌}
+use Rattle.std.proofs.Common.{◌≡◌, [], length, sym, ap, subst, ◌∙◌}
 use Rattle.std.specs.Vec.{with_items}
 use Rattle.std.proofs.lemmas.List.{with_items_is, nil_from_length}
 use Rattle.std.proofs.lemmas.Bool.{eqb-true as eqb_means}
 use Rattle.machine.specs.declared.event.Event.TheVariants.{Write}
 use Rattle.machine.specs.History.{put}
-use Rattle.machine.specs.Answers.{bytes_held}
 use Rattle.machine.specs.Kept.{Kept}
 use Rattle.machine.specs.Segments.{Shows}
 use Rattle.machine.specs.contracts.segment.Segment.{the_view}
 use Rattle.machine.proofs.Untouched.{shows_misuse}
 use Rattle.machine.proofs.Steps.{shows_write}
-use Rattle.machine.proofs.Told.{not_plain, write_misuse, write_answer, write_told, put_none}
+use Rattle.machine.proofs.Told.{write_misuse, write_answer, put_none}
 use Rattle.machine.proofs.segment.Segment.write.Goals as goal
-
-pub returns-then-self-clause-answer : goal.returns-then-self-clause-answer
-returns-then-self-clause-answer c = λ h s w.
-    let ended = sym (ap (λ (k : Kept). k.ended) c.self.view_is) ∙ c.if-self.true in
-    write_misuse h s c.args.place c.args.bytes.now (ap (λ b. b && bytes_held h s c.args.place (length c.args.bytes.now)) (not_plain h s c.args.self.now w ended))
-
-pub returns-then-self-clause-after : goal.returns-then-self-clause-after
-returns-then-self-clause-after c = λ h s w. shows_misuse h (Write s c.args.place c.args.bytes.now) s c.args.self.now w
 
 pub returns-then-not-holds-clause-answer : goal.returns-then-not-holds-clause-answer
 returns-then-not-holds-clause-answer c = λ h s w.
-    let plain = sym (ap (λ (k : Kept). k.ended) c.self.view_is) ∙ c.if-self.false in
-    write_misuse h s c.args.place c.args.bytes.now (write_told h s c.args.place c.args.bytes.now c.args.self.now false w plain (c.if-not-holds.ensures.told h s w))
+    write_misuse h s c.args.place c.args.bytes.now (sym (c.if-not-holds.ensures.told h s w))
 
 pub returns-then-not-holds-clause-after : goal.returns-then-not-holds-clause-after
 returns-then-not-holds-clause-after c = λ h s w. shows_misuse h (Write s c.args.place c.args.bytes.now) s c.args.self.now w
 
 pub returns-then-not-is_empty-clause-answer : goal.returns-then-not-is_empty-clause-answer
 returns-then-not-is_empty-clause-answer c = λ h s w.
-    let plain = sym (ap (λ (k : Kept). k.ended) c.self.view_is) ∙ c.if-self.false in
-    write_answer h s c.args.place c.args.bytes.now (write_told h s c.args.place c.args.bytes.now c.args.self.now true w plain (c.if-not-holds.ensures.told h s w))
+    write_answer h s c.args.place c.args.bytes.now (sym (c.if-not-holds.ensures.told h s w))
 
 pub returns-then-not-is_empty-clause-after : goal.returns-then-not-is_empty-clause-after
 returns-then-not-is_empty-clause-after c = λ h s w.
@@ -43,8 +32,7 @@ returns-then-not-is_empty-clause-after c = λ h s w.
 
 pub returns-else-not-is_empty-clause-answer : goal.returns-else-not-is_empty-clause-answer
 returns-else-not-is_empty-clause-answer c = λ h s w.
-    let plain = sym (ap (λ (k : Kept). k.ended) c.self.view_is) ∙ c.if-self.false in
-    write_answer h s c.args.place c.args.bytes.now (write_told h s c.args.place c.args.bytes.now c.args.self.now true w plain (c.if-not-holds.ensures.told h s w))
+    write_answer h s c.args.place c.args.bytes.now (sym (c.if-not-holds.ensures.told h s w))
 
 pub returns-else-not-is_empty-clause-after : goal.returns-else-not-is_empty-clause-after
 returns-else-not-is_empty-clause-after c = λ h s w.
