@@ -6,7 +6,7 @@ use Rattle.machine.specs.declared.event.Event.{Event}
 use Rattle.machine.specs.declared.event.Event.TheVariants.{Grant, Lock, Unlock, Write}
 use Rattle.machine.specs.declared.event.Answer.{Answer}
 use Rattle.machine.specs.declared.event.Answer.TheVariants.{Misuse, Granted}
-use Rattle.machine.specs.History.{History, number_of, is_begun, is_ended, is_gone, is_held, stamp_of, known_of}
+use Rattle.machine.specs.History.{History, number_of, is_begun, pages_of, is_ended, is_gone, is_held, stamp_of, known_of}
 use Rattle.machine.specs.Answers.{answer_of, is_live, bytes_held}
 use Rattle.machine.specs.Kept.{Kept}
 use Rattle.machine.specs.Segments.{Shows, IsUnknown}
@@ -61,8 +61,8 @@ each_push h id to pages table given next w step = λ s.
 
 -- nothing was granted before the first event
 pub none_known : (s : ℕ) → IsUnknown [] s
-unfolding is_begun is_ended is_gone is_held stamp_of known_of
-none_known s = record { begun = refl; held = λ page. refl; stamp = refl; known = refl; gone = refl; ended = refl }
+unfolding is_begun pages_of is_ended is_gone is_held stamp_of known_of
+none_known s = record { begun = refl; pages = refl; held = λ page. refl; stamp = refl; known = refl; gone = refl; ended = refl }
 
 only_nobody : (s : ℕ) → nobody ≡ get_or (nobody ∷ []) s nobody
 only_nobody zero = refl
