@@ -1,17 +1,17 @@
 -- What an owner's steps make of its segment, as the history tells it.
-use Rattle.std.proofs.Common.{take, drop, ◌++◌, ◌/◌, ap, ◌≡◌, ◌≢◌, ◌↔◌, ℕ, ◌+◌, ◌-◌, ◌*◌, ◌<◌, ◌≤◌, nat_lt, nat_le, max, Bool, true, false, not, ◌&&◌, cond, List, [], ◌∷◌, length, get_or, count_by, None, refl, sym, ◌∙◌, subst, ⊎_elim, arith, IsTrue}
-use Rattle.std.proofs.lemmas.Bool.{and_parts, cases_lt, cases_eq, false≢true, ltb-true, le-ltb, eqb-true, ne_eqb}
+use Rattle.std.proofs.Common.{take, drop, ◌++◌, ◌/◌, ap, ◌≡◌, ◌↔◌, ℕ, ◌+◌, ◌-◌, ◌*◌, ◌<◌, ◌≤◌, nat_lt, nat_le, max, Bool, true, false, not, ◌&&◌, cond, List, ◌∷◌, length, get_or, None, refl, sym, ◌∙◌, subst, ⊎_elim, arith, IsTrue}
+use Rattle.std.proofs.lemmas.Bool.{and_parts, cases_lt, false≢true, ltb-true, ne_eqb}
 use Rattle.std.proofs.lemmas.Bool.Decides.{nat_tests}
 use Rattle.std.specs.List.{refill}
 use Rattle.std.proofs.Math.Seq.{take-append_seam}
 use Rattle.std.proofs.lemmas.List.{get_or_past}
 use Rattle.units.specs.declared.TheConstants.{PAGE}
 use Rattle.units.specs.Moment.{IsMoment, is_moment}
-use Rattle.units.proofs.Ranges.{all_pass, one_fails, each_passes}
+use Rattle.units.proofs.Ranges.{all_pass, each_passes}
 use Rattle.machine.specs.declared.event.Event.TheVariants.{Grant, Lock, Unlock, Write}
 use Rattle.machine.specs.declared.event.Answer.TheVariants.{Granted, Misuse, Held, Gone, Idle, StillHeld, Written}
 use Rattle.machine.specs.History.{History, is_held, pages_of, put}
-use Rattle.machine.specs.Answers.{bytes_held, answer_of, can_lock, can_unlock, is_plain, are_free, are_held, staying, unlocked}
+use Rattle.machine.specs.Answers.{bytes_held, answer_of, can_lock, can_unlock, is_plain, are_free, are_held, staying}
 use Rattle.machine.specs.Kept.{Kept}
 use Rattle.machine.specs.Segments.{Shows, IsUnknown}
 use Rattle.machine.proofs.Steps.{shows_grant, shows_idle, shows_still_held, shows_lock, shows_write}

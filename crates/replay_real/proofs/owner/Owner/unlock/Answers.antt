@@ -1,4 +1,4 @@
-use Rattle.std.proofs.Common.{◌≡◌, refl, sym, ap, subst, ◌∙◌, ◌∷◌, max, ℕ, arith}
+use Rattle.std.proofs.Common.{refl, sym, ap, subst, ◌∙◌, ◌∷◌, max, ℕ, arith}
 use Rattle.machine.specs.declared.event.Event.TheVariants.{Unlock}
 use Rattle.machine.specs.declared.event.Answer.TheVariants.{Idle}
 use Rattle.machine.specs.Kept.{Kept}

@@ -1,4 +1,4 @@
-use Rattle.std.proofs.Common.{◌≡◌, refl, sym, ap, subst, ◌∙◌, ◌∷◌, length, ℕ, List, true, false}
+use Rattle.std.proofs.Common.{◌≡◌, refl, sym, ap, subst, ◌∙◌, length, ℕ, List, true, false}
 use Rattle.machine.specs.declared.event.Event.TheVariants.{Write}
 use Rattle.machine.specs.History.{put}
 use Rattle.machine.specs.Kept.{Kept}
