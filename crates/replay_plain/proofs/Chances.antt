@@ -1,13 +1,12 @@
 -- The tries of a reduction, where nothing else happens, are a reduction: each leaves fewer chances.
-use Rattle.std.proofs.Common.{◌≡◌, ◌≢◌, ◌⊎◌, ℕ, ◌+◌, ◌*◌, ◌<◌, ◌≤◌, ◌==◌, nat_lt, nat_le, zero, suc, Bool, true, false, not, ◌&&◌, ◌||◌, cond, List, [], ◌∷◌, ◌++◌, length, map, filter, sum, Option, Some, None, option_map, unwrap_or, count_by, refl, sym, ap, ◌∙◌, subst, arith, eq-eqb, zero-add, inl, inr}
+use Rattle.std.proofs.Common.{◌≡◌, ◌≢◌, ℕ, ◌+◌, ◌*◌, ◌<◌, ◌≤◌, ◌==◌, nat_le, zero, suc, Bool, true, false, not, ◌&&◌, ◌||◌, cond, List, [], ◌∷◌, ◌++◌, length, map, filter, Option, Some, None, option_map, unwrap_or, count_by, refl, sym, ap, ◌∙◌, subst, arith, eq-eqb, zero-add, inr}
 use Rattle.std.specs.List.{sum_by}
-use Rattle.std.proofs.lemmas.Bool.{eqb-true, leb-true, false≢true, ne_eqb}
+use Rattle.std.proofs.lemmas.Bool.{eqb-true, false≢true, ne_eqb}
 use Rattle.std.proofs.lemmas.Bool.Decides.{nat_tests}
 use Rattle.std.proofs.lemmas.List.Sums.{sum_by-cons}
 use Rattle.units.specs.Moment.{IsMoment, is_moment}
 use Rattle.machine.specs.declared.event.Event.{Event}
 use Rattle.machine.specs.declared.event.Event.TheVariants.{Try}
-use Rattle.machine.specs.declared.event.Answer.{Answer}
 use Rattle.machine.specs.declared.event.Answer.TheVariants.{Taken, Used, Misuse}
 use Rattle.machine.specs.History.{History, is_begun, pages_of, is_ended, is_gone, is_held, stamp_of, known_of}
 use Rattle.machine.specs.Answers.{answered, answer_of, is_live, is_plain, granted_numbers, can_try, tried}
@@ -15,7 +14,7 @@ use Rattle.machine.specs.Word.{word_of, state_after, some_held}
 use Rattle.machine.specs.Reduction.{Candidate, use_of, comes_first, least_of, least, is_late, has_ended, after_try, candidates, Reduces, IsReduction}
 use Rattle.machine.proofs.Counts.{drawn}
 use Rattle.machine.proofs.Reducing.{try_step}
-use Rattle.replay_plain.specs.Reductions.{live_segments, next_try, tries_within, most_tries, reduction}
+use Rattle.replay_plain.specs.Reductions.{live_segments, tries_within, most_tries, reduction}
 use Rattle.replay_plain.proofs.Effects.{live_begun}
 use Rattle.replay_plain.proofs.Following.{pushed}
 
@@ -118,7 +117,7 @@ sum_less f g s (x ∷ xs) same less some = by_test (sum_less f g s xs same less)
     by_test more false e =
         let here = same x e in
         let rest = more (λ none. some (sum_by-cons (λ n. cond (n == s) 1 0) x xs
-            ∙ ap {B = ℕ} (λ b. cond b 1 0 + count_by (λ n. n == s) xs) e ∙ zero-add (count_by (λ n. n == s) xs) ∙ none)) in
+        ∙ ap {B = ℕ} (λ b. cond b 1 0 + count_by (λ n. n == s) xs) e ∙ zero-add (count_by (λ n. n == s) xs) ∙ none)) in
         let one = sum_by-cons f x xs in
         let other = sum_by-cons g x xs in
         omega arith
@@ -325,15 +324,15 @@ reduces zero limit now events moment few =
     by_least limit now events (Reduces limit now (answered events) (live_segments events) (tries_within 0 limit now events))
     (λ ended. subst (Reduces limit now (answered events) (live_segments events)) (sym (ended_tries 0 limit now events ended)) ended)
     (λ c going is.
-        let less = fewer limit now events c moment (goes limit now events c going is) in
-        absurd (omega arith))
+    let less = fewer limit now events c moment (goes limit now events c going is) in
+    absurd (omega arith))
 reduces (suc most) limit now events moment few =
     by_least limit now events (Reduces limit now (answered events) (live_segments events) (tries_within (suc most) limit now events))
     (λ ended. subst (Reduces limit now (answered events) (live_segments events)) (sym (ended_tries (suc most) limit now events ended)) ended)
     (λ c going is.
-        let on = goes limit now events c going is in
-        let less = fewer limit now events c moment on in
-        reduces_more most limit now events c moment going is on (reduces most limit now (tried_once events now c) moment (omega arith)))
+    let on = goes limit now events c going is in
+    let less = fewer limit now events c moment on in
+    reduces_more most limit now events c moment going is on (reduces most limit now (tried_once events now c) moment (omega arith)))
 
 pub reduction_is : (events : List Event) (limit now : ℕ) → IsMoment now → IsReduction events limit now (reduction limit now events)
 reduction_is events limit now moment =

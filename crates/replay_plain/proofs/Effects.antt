@@ -1,12 +1,12 @@
 -- What an event makes of what is kept of one number.
-use Rattle.std.proofs.Common.{◌≡◌, ◌≢◌, ◌⊎◌, ℕ, ◌+◌, ◌==◌, nat_lt, nat_le, Bool, true, false, not, ◌&&◌, ◌||◌, cond, List, [], ◌∷◌, ◌++◌, Some, None, unwrap_or, refl, sym, ap, ◌∙◌, subst, arith, eq-eqb, inl, inr}
-use Rattle.std.proofs.lemmas.Bool.{eqb-true, false≢true, ne_eqb}
+use Rattle.std.proofs.Common.{◌≡◌, ◌≢◌, ◌⊎◌, ℕ, ◌==◌, Bool, true, false, not, ◌&&◌, ◌||◌, cond, ◌∷◌, Some, unwrap_or, refl, sym, ap, ◌∙◌, subst, eq-eqb, inl, inr}
+use Rattle.std.proofs.lemmas.Bool.{false≢true}
 use Rattle.machine.specs.declared.event.Event.{Event}
-use Rattle.machine.specs.declared.event.Event.TheVariants.{Grant, Lock, Unlock, Write, Try, Back}
+use Rattle.machine.specs.declared.event.Event.TheVariants.{Grant, Try, Back}
 use Rattle.machine.specs.declared.event.Answer.{Answer}
-use Rattle.machine.specs.declared.event.Answer.TheVariants.{Granted, Held, Gone, Idle, StillHeld, Written, Taken, Used, Counted, Purged, Misuse}
+use Rattle.machine.specs.declared.event.Answer.TheVariants.{Granted, Taken, Used, Counted, Purged, Misuse}
 use Rattle.machine.specs.History.{History, number_of, is_begun, pages_of, client_of, is_ended, is_gone, known_of}
-use Rattle.machine.specs.Answers.{answer_of, is_plain, is_live, can_try, can_give_back, granted_numbers, tried, held_count, unlocked}
+use Rattle.machine.specs.Answers.{answer_of, is_plain, is_live, can_try, can_give_back, granted_numbers}
 use Rattle.machine.specs.Segments.{IsUnknown}
 use Rattle.machine.proofs.Untouched.{begun_other, pages_other, ended_other, gone_other, known_other}
 use Rattle.replay_plain.specs.declared.known.KnownSegment.{KnownSegment}

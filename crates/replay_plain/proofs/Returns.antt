@@ -1,11 +1,11 @@
 -- The returns of a client's segments, one by one.
-use Rattle.std.proofs.Common.{◌≡◌, ℕ, ◌+◌, ◌-◌, ◌<◌, ◌≤◌, ◌==◌, zero, suc, Bool, true, false, not, ◌&&◌, cond, List, [], ◌∷◌, ◌++◌, map, filter, length, refl, sym, ap, ◌∙◌, subst, arith, count_by}
+use Rattle.std.proofs.Common.{◌≡◌, ℕ, ◌+◌, ◌<◌, ◌≤◌, ◌==◌, suc, Bool, true, false, ◌&&◌, cond, List, ◌∷◌, map, filter, refl, sym, ap, ◌∙◌, subst, arith}
 use Rattle.std.specs.List.{range_with_len}
 use Rattle.std.proofs.lemmas.Bool.{ne_eqb}
 use Rattle.machine.specs.declared.event.Event.{Event}
 use Rattle.machine.specs.declared.event.Event.TheVariants.{Back}
 use Rattle.machine.specs.Answers.{answer, answered, is_plain}
-use Rattle.machine.specs.History.{client_of, is_ended}
+use Rattle.machine.specs.History.{client_of}
 use Rattle.replay_plain.specs.declared.run.PlainRun.{PlainRun}
 use Rattle.replay_plain.specs.State.{ReplayState, after_event, after_events, grants_of}
 use Rattle.replay_plain.specs.Commands.{is_of, returns_of}

@@ -1,5 +1,5 @@
 -- The search for the least live segment, from the latest number to the first.
-use Rattle.std.proofs.Common.{◌≡◌, ℕ, ◌+◌, ◌==◌, nat_lt, ◌&&◌, ◌||◌, Bool, true, false, cond, zero, suc, List, [], ◌∷◌, map, filter, Option, Some, None, option_map, refl, sym, ap, ◌∙◌, subst, arith, length, slice_get, count_by}
+use Rattle.std.proofs.Common.{◌≡◌, ℕ, ◌+◌, Bool, true, false, cond, suc, List, [], ◌∷◌, map, filter, Option, Some, None, option_map, refl, sym, ap, ◌∙◌, subst, length, slice_get}
 use Rattle.std.proofs.Math.Numerals.{add-one}
 use Rattle.machine.specs.declared.event.Event.{Event}
 use Rattle.machine.specs.History.{History, pages_of, known_of}
@@ -8,8 +8,6 @@ use Rattle.machine.specs.Reduction.{Candidate, use_of, comes_first, least_of, le
 use Rattle.replay_plain.specs.declared.known.KnownSegment.{KnownSegment}
 use Rattle.replay_plain.specs.declared.known.KnownSegments.{KnownSegments}
 use Rattle.replay_plain.specs.declared.least.Least.{Least}
-use Rattle.replay_plain.specs.State.{is_grant}
-use Rattle.replay_plain.specs.Reductions.{live_segments}
 use Rattle.replay_plain.specs.Least.{least_told, first_of}
 use Rattle.replay_plain.specs.Known.{Tells, TellsAll, numbers_to}
 

@@ -1,5 +1,5 @@
 -- A run stands for the next state after each event.
-use Rattle.std.proofs.Common.{◌≡◌, ◌≢◌, ℕ, ◌+◌, ◌<◌, ◌≤◌, Bool, true, false, nat_lt, ◌&&◌, List, [], ◌∷◌, ◌++◌, length, Option, Some, None, refl, sym, ap, ◌∙◌, subst, arith, count_by}
+use Rattle.std.proofs.Common.{◌≡◌, ◌≢◌, ℕ, ◌+◌, ◌≤◌, true, false, List, [], ◌∷◌, ◌++◌, length, refl, sym, ap, ◌∙◌, subst, arith}
 use Rattle.std.proofs.lemmas.Bool.{false≢true}
 use Rattle.std.proofs.lemmas.Bool.Decides.{nat_tests}
 use Rattle.std.proofs.lemmas.List.{append-nil}
@@ -7,7 +7,7 @@ use Rattle.units.specs.declared.TheConstants.{MOST_PAGES}
 use Rattle.machine.specs.declared.event.Event.{Event}
 use Rattle.machine.specs.declared.event.Event.TheVariants.{Grant, Lock, Unlock, Write, Try, Back}
 use Rattle.machine.specs.declared.event.Answer.{Answer}
-use Rattle.machine.specs.declared.event.Answer.TheVariants.{Granted, Held, Gone, Idle, StillHeld, Written, Taken, Used, Counted, Purged, Misuse}
+use Rattle.machine.specs.declared.event.Answer.TheVariants.{Granted, Taken, Used, Counted, Purged}
 use Rattle.machine.specs.History.{is_begun}
 use Rattle.machine.specs.Answers.{answer, answered}
 use Rattle.machine.specs.Segments.{StandsFor}
@@ -18,7 +18,7 @@ use Rattle.discard_book.specs.declared.entry.Entry.{Entry}
 use Rattle.discard_book.specs.declared.entry.Entry.TheVariants as entry
 use Rattle.replay_plain.specs.declared.run.PlainRun.{PlainRun}
 use Rattle.replay_plain.specs.declared.known.KnownSegments.{KnownSegments}
-use Rattle.replay_plain.specs.State.{ReplayState, entries_by, entries_of, after_event, is_grant, known_use, grants_of, next_grant}
+use Rattle.replay_plain.specs.State.{ReplayState, entries_by, entries_of, after_event, is_grant, grants_of, next_grant}
 use Rattle.replay_plain.specs.Known.{TellsAll, is_drawn}
 use Rattle.replay_plain.specs.Run.{RunStandsFor}
 use Rattle.replay_plain.proofs.Effects.{is_quiet}

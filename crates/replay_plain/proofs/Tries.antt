@@ -1,12 +1,12 @@
 -- The tries of a reduction, one by one.
-use Rattle.std.proofs.Common.{◌≡◌, ℕ, ◌+◌, ◌-◌, ◌*◌, zero, suc, List, [], ◌∷◌, ◌++◌, length, Option, Some, None, option_map, unwrap_or, refl, sym, ap, ◌∙◌, subst, arith, count_by}
+use Rattle.std.proofs.Common.{◌≡◌, ℕ, ◌+◌, ◌-◌, ◌*◌, zero, suc, List, [], ◌∷◌, ◌++◌, length, Some, None, option_map, unwrap_or, refl, sym, ap, ◌∙◌, subst, arith}
 use Rattle.std.proofs.Math.Numerals.{add-one}
 use Rattle.machine.specs.declared.event.Event.{Event}
 use Rattle.machine.specs.declared.event.Event.TheVariants as event
 use Rattle.machine.specs.Answers.{answered, granted_numbers}
 use Rattle.replay_plain.specs.declared.run.PlainRun.{PlainRun}
-use Rattle.replay_plain.specs.State.{ReplayState, after_event, after_events, grants_of, is_grant}
-use Rattle.replay_plain.specs.Reductions.{next_try, tries_within, most_tries, reduction}
+use Rattle.replay_plain.specs.State.{ReplayState, after_event, after_events, grants_of}
+use Rattle.replay_plain.specs.Reductions.{next_try, tries_within, reduction}
 use Rattle.replay_plain.specs.Known.{numbers_to}
 use Rattle.replay_plain.specs.Run.{RunStandsFor}
 

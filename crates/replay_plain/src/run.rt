@@ -77,7 +77,10 @@ impl PlainRun {
             }
             Command::Lock { id, first, count } => {
                 let (id, first, count) = (*id, *first as u32, *count as u32);
-                push_answer(reply, self.happen(alloc, &Event::Lock { id, first, count })?)
+                push_answer(
+                    reply,
+                    self.happen(alloc, &Event::Lock { id, first, count })?,
+                )
             }
             Command::Unlock {
                 id,

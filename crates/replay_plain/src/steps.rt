@@ -64,7 +64,9 @@ impl PlainRun {
         ensures more { OnOk result (vec_len self.old.entries ≤ vec_len self.new.entries) }
     {
         let id = self.known.next();
-        let answer = self.segments.step(alloc, &Event::Grant { id, client, pages })?;
+        let answer = self
+            .segments
+            .step(alloc, &Event::Grant { id, client, pages })?;
         self.known.granted(client, pages)?;
         let limit = self.limit;
         self.entries.push(Entry::Grant {
@@ -77,12 +79,7 @@ impl PlainRun {
     }
 
     /// A try to purge a segment, at a moment.
-    pub(crate) fn try_purge(
-        &mut self,
-        alloc: Global,
-        id: u64,
-        now: u64,
-    ) -> Result<Answer, NoMemory>
+    pub(crate) fn try_purge(&mut self, alloc: Global, id: u64, now: u64) -> Result<Answer, NoMemory>
         ensures answer { IfOk result (λ a. (state : ReplayState) → RunStandsFor self.old state
             → a ≡ answer state.events (event.Try id now)) }
         ensures state { OnOk result ((state : ReplayState) → RunStandsFor self.old state

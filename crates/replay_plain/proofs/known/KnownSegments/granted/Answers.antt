@@ -1,4 +1,4 @@
-use Rattle.std.proofs.Common.{refl, sym, ap, ◌∙◌, ◌+◌}
+use Rattle.std.proofs.Common.{ap, ◌∙◌, ◌+◌}
 use Rattle.replay_plain.proofs.Following.{all_granted}
 use Rattle.replay_plain.proofs.known.KnownSegments.granted.Goals as goal
 

@@ -1,11 +1,9 @@
-use Rattle.std.proofs.Common.{◌≡◌, ◌+◌, ◌-◌, ℕ, List, Option, Some, true, false, cond, refl, sym, ap, subst, ◌∙◌, length, arith, slice_get}
+use Rattle.std.proofs.Common.{◌≡◌, ◌+◌, ◌-◌, Option, Some, cond, refl, sym, ap, subst, ◌∙◌, length, arith}
 use Rattle.std.proofs.lemmas.Option.{slice_get_read}
-use Rattle.machine.specs.declared.event.Event.{Event}
 use Rattle.machine.specs.Answers.{answered}
 use Rattle.replay_plain.specs.declared.least.Least.{Least}
 use Rattle.replay_plain.specs.Least.{first_of}
-use Rattle.replay_plain.specs.Known.{TellsAll}
-use Rattle.replay_plain.proofs.Seeking.{Sought, sought_next, sought_first, sought_last}
+use Rattle.replay_plain.proofs.Seeking.{Sought, sought_next, sought_last}
 use Rattle.replay_plain.proofs.known.KnownSegments.least.Goals as goal
 use Rattle.replay_plain.proofs.known.KnownSegments.least.Goals.{then-segment, else-segment}
 

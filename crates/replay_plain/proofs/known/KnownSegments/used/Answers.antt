@@ -1,9 +1,9 @@
-use Rattle.std.proofs.Common.{◌≡◌, refl, sym, ap, ◌∙◌, length, arith, slice_get, Some}
+use Rattle.std.proofs.Common.{refl, length, arith}
 use Rattle.std.proofs.lemmas.Option.{slice_get_read}
-use Rattle.machine.specs.declared.event.Answer.TheVariants.{Used, Taken, Counted, Purged}
+use Rattle.machine.specs.declared.event.Answer.TheVariants.{Used}
 use Rattle.machine.specs.Answers.{answered}
-use Rattle.replay_plain.proofs.Following.{all_used, all_taken, all_counted, all_returned, no_place, used_not_misuse, taken_not_misuse, counted_not_misuse, purged_not_misuse}
-use Rattle.replay_plain.proofs.Effects.{tried_live, live_begun, returned_begun}
+use Rattle.replay_plain.proofs.Following.{all_used, no_place, used_not_misuse}
+use Rattle.replay_plain.proofs.Effects.{tried_live, live_begun}
 use Rattle.replay_plain.proofs.known.KnownSegments.used.Goals as goal
 
 pub returns-then-place-len : goal.returns-then-place-len

@@ -1,4 +1,4 @@
-use Rattle.std.proofs.Common.{refl, sym, ◌∙◌}
+use Rattle.std.proofs.Common.{refl, ◌∙◌}
 use Rattle.replay_plain.proofs.Standing.{stands_drawn}
 use Rattle.replay_plain.proofs.run.PlainRun.draw.Goals as goal
 

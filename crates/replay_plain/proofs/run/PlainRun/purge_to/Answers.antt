@@ -1,4 +1,4 @@
-use Rattle.std.proofs.Common.{◌+◌, ◌-◌, ◌*◌, refl, sym, ap, ◌∙◌, arith}
+use Rattle.std.proofs.Common.{◌+◌, ◌-◌, ◌*◌, arith}
 use Rattle.replay_plain.proofs.Tries.{tries_first, tries_next, tries_ended, tries_over}
 use Rattle.replay_plain.proofs.run.PlainRun.purge_to.Goals as goal
 
@@ -23,8 +23,8 @@ loop-preserved c = (
       tries_next c.args.limit c.args.now first c.loop.self c.try_purge.new.self left c.in-Some.id c.in-Some.ensures c.in_ok-try_purge.ensures.state
       (c.loop.invariant.0 first (left + 1) w (omega arith)),
   let more = c.in_ok-try_purge.ensures.more in
-  let so_far = c.loop.invariant.1 in
-  omega arith,
+      let so_far = c.loop.invariant.1 in
+      omega arith,
 )
 
 pub returns-clause-state : goal.returns-clause-state
