@@ -52,15 +52,15 @@ pub record Told (text : List ℕ) (before after : Telling) : Type 0 where
   pub nothing : text ≡ [] → after ≡ before
   pub later : before.faults ≤ after.faults
 
--- the report failed when it had got a front of a text that is not empty, and the run ends as a write fault, whose line, or a
--- front of it, follows
+-- the report failed when it had got a front of a text that is not empty, and the run ends as a write fault, whose line was then
+-- tried on the same object
 pub record ReportFailed (text : List ℕ) (ended : Ended) (before after : Telling) : Type 0 where
   pub some : text ≢ []
-  pub fault : HasRisen before.faults after.faults
   pub write_fault : ended ≡ record { status = WriteFault; run = Nothing }
-  pub between : Option (List ℕ)
-  pub front : WroteFront before.written text between
-  pub line : WroteFront between (status_line WriteFault) after.written
+  pub between : Telling
+  pub fault : HasRisen before.faults between.faults
+  pub front : WroteFront before.written text between.written
+  pub line : Told (status_line WriteFault) between after
 
 -- the report got its text, and the program ends as its run did
 pub record ReportMade (text : List ℕ) (ran ended : Ended) (before after : Telling) : Type 0 where
