@@ -1,54 +1,75 @@
 -- The commands of a script are in their ranges.
-use Rattle.std.proofs.Common.{◌≡◌, ℕ, ◌^◌, ◌+◌, ◌-◌, ◌*◌, ◌≤◌, nat_le, nat_lt, Bool, true, false, ◌&&◌, cond, List, [], ◌∷◌, ◌++◌, length, Option, Some, None, Result, Ok, Err, refl, ap, subst, arith, codes}
+use Rattle.std.proofs.Common.{◌≡◌, ℕ, ◌^◌, ◌+◌, ◌-◌, ◌*◌, ◌≤◌, nat_le, nat_lt, Bool, true, false, ◌&&◌, cond, List, [], ◌∷◌, ◌++◌, length, Option, Some, None, Result, Ok, Err, IfOk, refl, subst, arith, codes}
 use Rattle.std.specs.Str.{bytes_eq}
 use Rattle.std.specs.Option.{ok_or, option_and_then}
 use Rattle.std.proofs.lemmas.Bool.Decides.{nat_tests}
+use Rattle.std.proofs.lemmas.Result.{IfOk-at_ok}
 use Rattle.units.specs.declared.TheConstants.{PAGE, LAST_MOMENT}
-use Rattle.line_text.specs.declared.limits.TheConstants.{MOST_SCRIPT_BYTES, LAST_CLIENT, MOST_SEGMENT_PAGES, MOST_MOVED_BYTES}
+use Rattle.units.specs.Moment.{IsMoment}
+use Rattle.line_text.specs.declared.limits.TheConstants.{MOST_SCRIPT_BYTES, LAST_CLIENT, MOST_SEGMENT_PAGES, MOST_LIMIT, MOST_MOVED_BYTES}
 use Rattle.line_text.specs.declared.cause.Cause.{Cause}
 use Rattle.line_text.specs.declared.cause.Cause.TheVariants as cause
 use Rattle.line_text.specs.declared.command.Command.{Command}
-use Rattle.line_text.specs.declared.command.Command.TheVariants.{Grant, Lock, Unlock, Write, Read, Try}
 use Rattle.line_text.specs.Number.{number_of, within}
 use Rattle.line_text.specs.Lines.{kept_lines}
 use Rattle.line_text.specs.Hex.{hex_bytes, hex_digit}
-use Rattle.line_text.specs.Script.{◌>>=◌, Commands, number, bytes, grant, lock, unlock, write, read, try_purge, command_of, next_command, is_one_too_many, at_line, commands_after, script_of}
-use Rattle.line_text.specs.Ranges.{IsBetween, IsByteCount, IsInRange, AreInRange}
+use Rattle.line_text.specs.Script.{◌>>=◌, Commands, number, segment, client, moment, first_page, page_count, page_limit, is_critical, byte_place, byte_count, bytes, grant, lock, unlock, write, read, try_purge, back, reduce, enforce, pressure, limit, remove, granted, manager_command, named_command, command_of, next_command, is_one_too_many, at_line, commands_after, script_of}
+use Rattle.line_text.specs.Ranges.{IsBetween, IsClient, IsLimit, IsFirstPage, IsPageCount, IsBytePlace, IsByteCount, IsInRange, AreInRange}
 
--- what a first step gave, and what the second made of it
-bind_ok : {A B E : Type 0} (r : Result A E) (f : A → Result B E) (y : B) → (r >>= f) ≡ Ok y → (x : A) × (r ≡ Ok x) × (f x ≡ Ok y)
-bind_ok (Ok x) f y e = (x, refl, e)
-bind_ok (Err e) f y h = cc
+-- what a second step gives is well, where it is for all that the first may give
+then : {A B E : Type 0} (r : Result A E) (P : A → Type 0) (f : A → Result B E) (Q : B → Type 0) → IfOk r P → ((x : A) → P x → IfOk (f x) Q) → IfOk (r >>= f) Q
+then (Ok x) P f Q p next = next x p
+then (Err e) P f Q p next = tt
 
-bind_some : {A B : Type 0} (o : Option A) (f : A → Option B) (y : B) → option_and_then f o ≡ Some y → (x : A) × (o ≡ Some x) × (f x ≡ Some y)
-bind_some (Some x) f y e = (x, refl, e)
-bind_some None f y h = cc
+-- a choice is well, where both sides are
+choice : {A E : Type 0} (P : A → Type 0) (b : Bool) (x y : Result A E) → IfOk x P → IfOk y P → IfOk (cond b x y) P
+choice P true x y p q = p
+choice P false x y p q = q
 
-refused_is_not : (P : Type 0) (why : Cause) (command : Command) → Err why ≡ Ok command → P
-refused_is_not P why command e = absurd (let no : ⊥ = cc in no)
+-- ---- words
 
--- a choice is one of its two sides
-either : {A : Type 0} (P : Type 0) (b : Bool) (x y z : A) → cond b x y ≡ z → (x ≡ z → P) → (y ≡ z → P) → P
-either P true x y z e first second = first e
-either P false x y z e first second = second e
+within_range : (least most m : ℕ) (b : Bool) → (nat_le least m && nat_le m most) ≡ b → IfOk (ok_or (cond b (Some m) None) cause.Number) (IsBetween least most)
+within_range least most m true test = (grind (arith, nat_tests), grind (arith, nat_tests))
+within_range least most m false test = tt
 
-ok_same : {A E : Type 0} (P : A → Type 0) (x y : A) (r : Result A E) → r ≡ Ok y → r ≡ Ok x → P x → P y
-ok_same P x y r e f p = subst P (let same : x ≡ y = cc in same) p
+found_in_range : (least most : ℕ) (found : Option ℕ) → IfOk (ok_or (within least most found) cause.Number) (IsBetween least most)
+found_in_range least most None = tt
+found_in_range least most (Some m) = within_range least most m (nat_le least m && nat_le m most) refl
+
+-- a number that is taken lies in its range
+in_range : (word : List ℕ) (least most : ℕ) → IfOk (number word least most) (IsBetween least most)
+in_range word least most = found_in_range least most (number_of word)
+
+with_segment : (word : List ℕ) (f : ℕ → Result Command Cause) → ((x : ℕ) → IsBetween 0 (2 ^ 64 - 1) x → IfOk (f x) IsInRange) → IfOk (segment word >>= f) IsInRange
+with_segment word f = then (segment word) _ f IsInRange (in_range word 0 (2 ^ 64 - 1))
+
+with_client : (word : List ℕ) (f : ℕ → Result Command Cause) → ((x : ℕ) → IsClient x → IfOk (f x) IsInRange) → IfOk (client word >>= f) IsInRange
+with_client word f = then (client word) _ f IsInRange (in_range word 1 LAST_CLIENT)
+
+with_moment : (word : List ℕ) (f : ℕ → Result Command Cause) → ((x : ℕ) → IsMoment x → IfOk (f x) IsInRange) → IfOk (moment word >>= f) IsInRange
+with_moment word f = then (moment word) _ f IsInRange (in_range word 1 LAST_MOMENT)
+
+with_first : (word : List ℕ) (f : ℕ → Result Command Cause) → ((x : ℕ) → IsFirstPage x → IfOk (f x) IsInRange) → IfOk (first_page word >>= f) IsInRange
+with_first word f = then (first_page word) _ f IsInRange (in_range word 0 (MOST_SEGMENT_PAGES - 1))
+
+with_pages : (word : List ℕ) (f : ℕ → Result Command Cause) → ((x : ℕ) → IsPageCount x → IfOk (f x) IsInRange) → IfOk (page_count word >>= f) IsInRange
+with_pages word f = then (page_count word) _ f IsInRange (in_range word 1 MOST_SEGMENT_PAGES)
+
+with_limit : (word : List ℕ) (f : ℕ → Result Command Cause) → ((x : ℕ) → IsLimit x → IfOk (f x) IsInRange) → IfOk (page_limit word >>= f) IsInRange
+with_limit word f = then (page_limit word) _ f IsInRange (in_range word 0 MOST_LIMIT)
+
+with_place : (word : List ℕ) (f : ℕ → Result Command Cause) → ((x : ℕ) → IsBytePlace x → IfOk (f x) IsInRange) → IfOk (byte_place word >>= f) IsInRange
+with_place word f = then (byte_place word) _ f IsInRange (in_range word 0 (MOST_SEGMENT_PAGES * PAGE - 1))
+
+with_count : (word : List ℕ) (f : ℕ → Result Command Cause) → ((x : ℕ) → IsByteCount x → IfOk (f x) IsInRange) → IfOk (byte_count word >>= f) IsInRange
+with_count word f = then (byte_count word) _ f IsInRange (in_range word 1 MOST_MOVED_BYTES)
 
 some_same : {A : Type 0} (P : A → Type 0) (x y : A) (o : Option A) → o ≡ Some y → o ≡ Some x → P x → P y
 some_same P x y o e f p = subst P (let same : x ≡ y = cc in same) p
 
--- a number that was taken lies in its range
-taken : (least most m : ℕ) (b : Bool) (n : ℕ) → (nat_le least m && nat_le m most) ≡ b → ok_or (cond b (Some m) None) cause.Number ≡ Ok n → IsBetween least most n
-taken least most m true n test e = ok_same (λ k. IsBetween least most k) m n (Ok m) e refl (grind (arith, nat_tests), grind (arith, nat_tests))
-taken least most m false n test e = cc
-
-between : (least most : ℕ) (found : Option ℕ) (n : ℕ) → ok_or (within least most found) cause.Number ≡ Ok n → IsBetween least most n
-between least most None n e = cc
-between least most (Some m) n e = taken least most m (nat_le least m && nat_le m most) n refl e
-
-number_between : (word : List ℕ) (least most n : ℕ) → number word least most ≡ Ok n → IsBetween least most n
-number_between word least most n e = between least most (number_of word) n e
+bind_some : {A B : Type 0} (o : Option A) (f : A → Option B) (y : B) → option_and_then f o ≡ Some y → (x : A) × (o ≡ Some x) × (f x ≡ Some y)
+bind_some (Some x) f y e = (x, refl, e)
+bind_some None f y h = cc
 
 -- two digits are a byte
 hex_length : (digits content : List ℕ) → hex_bytes digits ≡ Some content → 2 * length content ≡ length digits
@@ -61,114 +82,126 @@ hex_length (h ∷ l ∷ digits) content e =
     some_same (λ bs. 2 * length bs ≡ length (h ∷ l ∷ digits)) ((high.0 * 16 + low.0) ∷ rest.0) content (Some ((high.0 * 16 + low.0) ∷ rest.0)) rest.2 refl
     (omega (arith, hex_length digits rest.0 rest.1))
 
-hex_between : (word content : List ℕ) (b : Bool) → (nat_le 2 (length word) && nat_le (length word) (2 * MOST_MOVED_BYTES)) ≡ b
-    → ok_or (cond b (hex_bytes word) None) cause.Bytes ≡ Ok content → IsByteCount (length content)
-hex_between word content true test e = found (hex_bytes word) refl e
-  where
-    found : (o : Option (List ℕ)) → hex_bytes word ≡ o → ok_or o cause.Bytes ≡ Ok content → IsByteCount (length content)
-    found None is h = cc
-    found (Some bs) is h =
-        let sized = hex_length word bs is in
-        let least : 2 ≤ length word = grind (arith, nat_tests) in
-        let most : length word ≤ 2 * MOST_MOVED_BYTES = grind (arith, nat_tests) in
-        ok_same (λ (c : List ℕ). IsByteCount (length c)) bs content (Ok bs) h refl (omega arith, omega arith)
-hex_between word content false test e = cc
+hex_found : (word : List ℕ) (o : Option (List ℕ)) → 2 ≤ length word → length word ≤ 2 * MOST_MOVED_BYTES → hex_bytes word ≡ o → IfOk (ok_or o cause.Bytes) (λ content. IsByteCount (length content))
+hex_found word None least most is = tt
+hex_found word (Some content) least most is = let sized = hex_length word content is in (omega (arith, sized, least), omega (arith, sized, most))
 
-bytes_between : (word content : List ℕ) → bytes word ≡ Ok content → IsByteCount (length content)
-bytes_between word content e = hex_between word content (nat_le 2 (length word) && nat_le (length word) (2 * MOST_MOVED_BYTES)) refl e
+hex_in : (word : List ℕ) (b : Bool) → (nat_le 2 (length word) && nat_le (length word) (2 * MOST_MOVED_BYTES)) ≡ b
+    → IfOk (ok_or (cond b (hex_bytes word) None) cause.Bytes) (λ content. IsByteCount (length content))
+hex_in word true test = hex_found word (hex_bytes word) (grind (arith, nat_tests)) (grind (arith, nat_tests)) refl
+hex_in word false test = tt
 
-grant_in : (words : List (List ℕ)) (command : Command) → grant words ≡ Ok command → IsInRange command
-grant_in (c ∷ n ∷ t ∷ []) command e =
-    let owner = bind_ok (number c 1 64) _ command e in
-    let pages = bind_ok (number n 1 512) _ command owner.2 in
-    let at = bind_ok (number t 1 LAST_MOMENT) _ command pages.2 in
-    ok_same IsInRange (Grant owner.0 pages.0 at.0) command (Ok (Grant owner.0 pages.0 at.0)) at.2 refl
-    (number_between c 1 LAST_CLIENT owner.0 owner.1, number_between n 1 MOST_SEGMENT_PAGES pages.0 pages.1, number_between t 1 LAST_MOMENT at.0 at.1)
-grant_in _ command e = cc
+bytes_in : (word : List ℕ) → IfOk (bytes word) (λ content. IsByteCount (length content))
+bytes_in word = hex_in word (nat_le 2 (length word) && nat_le (length word) (2 * MOST_MOVED_BYTES)) refl
 
-lock_in : (words : List (List ℕ)) (command : Command) → lock words ≡ Ok command → IsInRange command
-lock_in (s ∷ f ∷ n ∷ []) command e =
-    let id = bind_ok (number s 0 (2 ^ 64 - 1)) _ command e in
-    let first = bind_ok (number f 0 511) _ command id.2 in
-    let count = bind_ok (number n 1 512) _ command first.2 in
-    ok_same IsInRange (Lock id.0 first.0 count.0) command (Ok (Lock id.0 first.0 count.0)) count.2 refl
-    (number_between f 0 (MOST_SEGMENT_PAGES - 1) first.0 first.1, number_between n 1 MOST_SEGMENT_PAGES count.0 count.1)
-lock_in _ command e = cc
+with_bytes : (word : List ℕ) (f : List ℕ → Result Command Cause) → ((x : List ℕ) → IsByteCount (length x) → IfOk (f x) IsInRange) → IfOk (bytes word >>= f) IsInRange
+with_bytes word f = then (bytes word) _ f IsInRange (bytes_in word)
 
-unlock_in : (words : List (List ℕ)) (command : Command) → unlock words ≡ Ok command → IsInRange command
-unlock_in (s ∷ f ∷ n ∷ t ∷ []) command e =
-    let id = bind_ok (number s 0 (2 ^ 64 - 1)) _ command e in
-    let first = bind_ok (number f 0 511) _ command id.2 in
-    let count = bind_ok (number n 1 512) _ command first.2 in
-    let at = bind_ok (number t 1 LAST_MOMENT) _ command count.2 in
-    ok_same IsInRange (Unlock id.0 first.0 count.0 at.0) command (Ok (Unlock id.0 first.0 count.0 at.0)) at.2 refl
-    (number_between f 0 (MOST_SEGMENT_PAGES - 1) first.0 first.1, number_between n 1 MOST_SEGMENT_PAGES count.0 count.1, number_between t 1 LAST_MOMENT at.0 at.1)
-unlock_in _ command e = cc
+any_want : (word : List ℕ) → IfOk (is_critical word) (λ critical. Unit {0})
+any_want word = choice _ (bytes_eq word (codes "critical")) _ _ tt (choice _ (bytes_eq word (codes "moderate")) _ _ tt tt)
 
-write_in : (words : List (List ℕ)) (command : Command) → write words ≡ Ok command → IsInRange command
-write_in (s ∷ p ∷ h ∷ []) command e =
-    let id = bind_ok (number s 0 (2 ^ 64 - 1)) _ command e in
-    let place = bind_ok (number p 0 2097151) _ command id.2 in
-    let content = bind_ok (bytes h) _ command place.2 in
-    ok_same IsInRange (Write id.0 place.0 content.0) command (Ok (Write id.0 place.0 content.0)) content.2 refl
-    (number_between p 0 (MOST_SEGMENT_PAGES * PAGE - 1) place.0 place.1, bytes_between h content.0 content.1)
-write_in _ command e = cc
+with_want : (word : List ℕ) (f : Bool → Result Command Cause) → ((x : Bool) → Unit {0} → IfOk (f x) IsInRange) → IfOk (is_critical word >>= f) IsInRange
+with_want word f = then (is_critical word) _ f IsInRange (any_want word)
 
-read_in : (words : List (List ℕ)) (command : Command) → read words ≡ Ok command → IsInRange command
-read_in (s ∷ p ∷ r ∷ []) command e =
-    let id = bind_ok (number s 0 (2 ^ 64 - 1)) _ command e in
-    let place = bind_ok (number p 0 2097151) _ command id.2 in
-    let count = bind_ok (number r 1 MOST_MOVED_BYTES) _ command place.2 in
-    ok_same IsInRange (Read id.0 place.0 count.0) command (Ok (Read id.0 place.0 count.0)) count.2 refl
-    (number_between p 0 (MOST_SEGMENT_PAGES * PAGE - 1) place.0 place.1, number_between r 1 MOST_MOVED_BYTES count.0 count.1)
-read_in _ command e = cc
+-- ---- commands
 
-try_in : (words : List (List ℕ)) (command : Command) → try_purge words ≡ Ok command → IsInRange command
-try_in (s ∷ t ∷ []) command e =
-    let id = bind_ok (number s 0 (2 ^ 64 - 1)) _ command e in
-    let at = bind_ok (number t 1 LAST_MOMENT) _ command id.2 in
-    ok_same IsInRange (Try id.0 at.0) command (Ok (Try id.0 at.0)) at.2 refl (number_between t 1 LAST_MOMENT at.0 at.1)
-try_in _ command e = cc
+grant_in : (words : List (List ℕ)) → IfOk (grant words) IsInRange
+grant_in (c ∷ n ∷ t ∷ []) = with_client c _ (λ owner a. with_pages n _ (λ pages b. with_moment t _ (λ at d. (a, b, d))))
+grant_in _ = tt
 
--- by the command's own word
-named_in : (a b c d e f : Bool) (words : List (List ℕ)) (command : Command)
-    → cond a (grant words) (cond b (lock words) (cond c (unlock words) (cond d (write words) (cond e (read words) (cond f (try_purge words) (Err cause.Word)))))) ≡ Ok command
-    → IsInRange command
-named_in true b c d e f words command h = grant_in words command h
-named_in false true c d e f words command h = lock_in words command h
-named_in false false true d e f words command h = unlock_in words command h
-named_in false false false true e f words command h = write_in words command h
-named_in false false false false true f words command h = read_in words command h
-named_in false false false false false true words command h = try_in words command h
-named_in false false false false false false words command h = refused_is_not (IsInRange command) cause.Word command h
+lock_in : (words : List (List ℕ)) → IfOk (lock words) IsInRange
+lock_in (s ∷ f ∷ n ∷ []) = with_segment s _ (λ id i. with_first f _ (λ first a. with_pages n _ (λ count b. (a, b))))
+lock_in _ = tt
 
-command_in : (words : List (List ℕ)) (command : Command) → command_of words ≡ Ok command → IsInRange command
-command_in [] command e = refused_is_not (IsInRange command) cause.Word command e
-command_in (name ∷ words) command e =
-    named_in (bytes_eq name (codes "grant")) (bytes_eq name (codes "lock")) (bytes_eq name (codes "unlock")) (bytes_eq name (codes "write"))
-    (bytes_eq name (codes "read")) (bytes_eq name (codes "try")) words command e
+unlock_in : (words : List (List ℕ)) → IfOk (unlock words) IsInRange
+unlock_in (s ∷ f ∷ n ∷ t ∷ []) =
+    with_segment s _ (λ id i. with_first f _ (λ first a. with_pages n _ (λ count b. with_moment t _ (λ at d. (a, b, d)))))
+unlock_in _ = tt
 
-next_in : (before : Commands) (words : List (List ℕ)) (command : Command) → next_command before words ≡ Ok command → IsInRange command
-next_in before words command e =
-    let found = bind_ok (command_of words) _ command e in
-    either (IsInRange command) (is_one_too_many before found.0) _ _ _ found.2 (λ many. cc)
-    (λ kept. ok_same IsInRange found.0 command (Ok found.0) kept refl (command_in words found.0 found.1))
+write_in : (words : List (List ℕ)) → IfOk (write words) IsInRange
+write_in (s ∷ p ∷ h ∷ []) = with_segment s _ (λ id i. with_place p _ (λ place a. with_bytes h _ (λ content b. (a, b))))
+write_in _ = tt
 
-at_line_ok : (place : ℕ) (r : Result Command Cause) (command : Command) → at_line place r ≡ Ok command → r ≡ Ok command
-at_line_ok place (Ok x) command e = ap (λ y. Ok y) (let same : x ≡ command = cc in same)
-at_line_ok place (Err why) command e = cc
+read_in : (words : List (List ℕ)) → IfOk (read words) IsInRange
+read_in (s ∷ p ∷ r ∷ []) = with_segment s _ (λ id i. with_place p _ (λ place a. with_count r _ (λ count b. (a, b))))
+read_in _ = tt
+
+try_in : (words : List (List ℕ)) → IfOk (try_purge words) IsInRange
+try_in (s ∷ t ∷ []) = with_segment s _ (λ id i. with_moment t _ (λ at a. a))
+try_in _ = tt
+
+back_in : (words : List (List ℕ)) → IfOk (back words) IsInRange
+back_in (s ∷ []) = with_segment s _ (λ id i. tt)
+back_in _ = tt
+
+reduce_in : (words : List (List ℕ)) → IfOk (reduce words) IsInRange
+reduce_in (l ∷ t ∷ []) = with_limit l _ (λ pages a. with_moment t _ (λ at b. (a, b)))
+reduce_in _ = tt
+
+enforce_in : (words : List (List ℕ)) → IfOk (enforce words) IsInRange
+enforce_in (t ∷ []) = with_moment t _ (λ at a. a)
+enforce_in _ = tt
+
+pressure_in : (words : List (List ℕ)) → IfOk (pressure words) IsInRange
+pressure_in (w ∷ t ∷ []) = with_want w _ (λ critical i. with_moment t _ (λ at a. a))
+pressure_in _ = tt
+
+new_limit_in : (words : List (List ℕ)) → IfOk (limit words) IsInRange
+new_limit_in (l ∷ t ∷ []) = with_limit l _ (λ pages a. with_moment t _ (λ at b. (a, b)))
+new_limit_in _ = tt
+
+remove_in : (words : List (List ℕ)) → IfOk (remove words) IsInRange
+remove_in (c ∷ []) = with_client c _ (λ owner a. a)
+remove_in _ = tt
+
+granted_in : (words : List (List ℕ)) → IfOk (granted words) IsInRange
+granted_in [] = tt
+granted_in _ = tt
+
+manager_in : (name : List ℕ) (words : List (List ℕ)) → IfOk (manager_command name words) IsInRange
+manager_in name words =
+    choice _ (bytes_eq name (codes "back")) _ _ (back_in words)
+    (choice _ (bytes_eq name (codes "reduce")) _ _ (reduce_in words)
+    (choice _ (bytes_eq name (codes "enforce")) _ _ (enforce_in words)
+    (choice _ (bytes_eq name (codes "pressure")) _ _ (pressure_in words)
+    (choice _ (bytes_eq name (codes "limit")) _ _ (new_limit_in words)
+    (choice _ (bytes_eq name (codes "remove")) _ _ (remove_in words)
+    (choice _ (bytes_eq name (codes "granted")) _ _ (granted_in words) tt))))))
+
+named_in : (name : List ℕ) (words : List (List ℕ)) → IfOk (named_command name words) IsInRange
+named_in name words =
+    choice _ (bytes_eq name (codes "grant")) _ _ (grant_in words)
+    (choice _ (bytes_eq name (codes "lock")) _ _ (lock_in words)
+    (choice _ (bytes_eq name (codes "unlock")) _ _ (unlock_in words)
+    (choice _ (bytes_eq name (codes "write")) _ _ (write_in words)
+    (choice _ (bytes_eq name (codes "read")) _ _ (read_in words)
+    (choice _ (bytes_eq name (codes "try")) _ _ (try_in words) (manager_in name words))))))
+
+command_in : (words : List (List ℕ)) → IfOk (command_of words) IsInRange
+command_in [] = tt
+command_in (name ∷ words) = named_in name words
+
+-- ---- scripts
+
+next_in : (before : Commands) (words : List (List ℕ)) → IfOk (next_command before words) IsInRange
+next_in before words = then (command_of words) _ _ _ (command_in words) (λ command a. choice _ (is_one_too_many before command) _ _ tt a)
+
+line_in : (place : ℕ) (r : Result Command Cause) → IfOk r IsInRange → IfOk (at_line place r) IsInRange
+line_in place (Ok command) a = a
+line_in place (Err why) a = tt
 
 all_push : (before : Commands) (line : ℕ × Command) → AreInRange before → IsInRange line.1 → AreInRange (before ++ line ∷ [])
 all_push [] line w new = (new, tt)
 all_push (x ∷ before) line w new = (w.0, all_push before line w.1 new)
 
-after_in : (before : Commands) (lines : List (ℕ × List (List ℕ))) (commands : Commands) → AreInRange before → commands_after before lines ≡ Ok commands → AreInRange commands
-after_in before [] commands w e = ok_same AreInRange before commands (Ok before) e refl w
-after_in before (line ∷ lines) commands w e =
-    let next = bind_ok (at_line line.0 (next_command before line.1)) _ commands e in
-    after_in (before ++ (line.0, next.0) ∷ []) lines commands
-    (all_push before (line.0, next.0) w (next_in before line.1 next.0 (at_line_ok line.0 (next_command before line.1) next.0 next.1))) next.2
+after_in : (before : Commands) (lines : List (ℕ × List (List ℕ))) → AreInRange before → IfOk (commands_after before lines) AreInRange
+after_in before [] w = w
+after_in before (line ∷ lines) w =
+    then (at_line line.0 (next_command before line.1)) _ _ _ (line_in line.0 (next_command before line.1) (next_in before line.1))
+    (λ command a. after_in (before ++ (line.0, command) ∷ []) lines (all_push before (line.0, command) w a))
+
+text_in : (text : List ℕ) → IfOk (script_of text) AreInRange
+text_in text = choice _ (nat_lt MOST_SCRIPT_BYTES (length text)) _ _ tt (after_in [] (kept_lines text) tt)
 
 pub script_in : (text : List ℕ) (commands : Commands) → script_of text ≡ Ok commands → AreInRange commands
-script_in text commands e =
-    either (AreInRange commands) (nat_lt MOST_SCRIPT_BYTES (length text)) _ _ _ e (λ long. cc) (λ kept. after_in [] (kept_lines text) commands tt kept)
+script_in text commands e = IfOk-at_ok AreInRange e (text_in text)

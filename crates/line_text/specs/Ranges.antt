@@ -3,14 +3,22 @@ use Rattle.std.specs.Prelude.{ℕ, ◌-◌, ◌*◌, ◌≤◌, length}
 use Rattle.std.specs.List.{AllByRecursion}
 use Rattle.units.specs.declared.TheConstants.{PAGE}
 use Rattle.units.specs.Moment.{IsMoment}
-use Rattle.line_text.specs.declared.limits.TheConstants.{LAST_CLIENT, MOST_SEGMENT_PAGES, MOST_MOVED_BYTES}
+use Rattle.line_text.specs.declared.limits.TheConstants.{LAST_CLIENT, MOST_SEGMENT_PAGES, MOST_LIMIT, MOST_MOVED_BYTES}
 use Rattle.line_text.specs.declared.command.Command.{Command}
-use Rattle.line_text.specs.declared.command.Command.TheVariants.{Grant, Lock, Unlock, Write, Read, Try}
+use Rattle.line_text.specs.declared.command.Command.TheVariants.{Grant, Lock, Unlock, Write, Read, Try, Back, Reduce, Enforce, Pressure, Limit, Remove, Granted}
 use Rattle.line_text.specs.Script.{Commands}
 
 -- a number lies from least to most
 abbrev pub IsBetween : ℕ → ℕ → ℕ → Type 0
 IsBetween least most n = (least ≤ n) × (n ≤ most)
+
+-- a client
+abbrev pub IsClient : ℕ → Type 0
+IsClient client = IsBetween 1 LAST_CLIENT client
+
+-- a limit of the manager, in pages
+abbrev pub IsLimit : ℕ → Type 0
+IsLimit limit = IsBetween 0 MOST_LIMIT limit
 
 -- a page that a range of pages begins with
 abbrev pub IsFirstPage : ℕ → Type 0
@@ -30,12 +38,19 @@ IsByteCount count = IsBetween 1 MOST_MOVED_BYTES count
 
 -- each word of a command lies in its range
 abbrev pub IsInRange : Command → Type 0
-IsInRange (Grant client pages at) = IsBetween 1 LAST_CLIENT client × IsPageCount pages × IsMoment at
+IsInRange (Grant client pages at) = IsClient client × IsPageCount pages × IsMoment at
 IsInRange (Lock id first count) = IsFirstPage first × IsPageCount count
 IsInRange (Unlock id first count at) = IsFirstPage first × IsPageCount count × IsMoment at
 IsInRange (Write id place bytes) = IsBytePlace place × IsByteCount (length bytes)
 IsInRange (Read id place count) = IsBytePlace place × IsByteCount count
 IsInRange (Try id at) = IsMoment at
+IsInRange (Back id) = Unit {0}
+IsInRange (Reduce limit at) = IsLimit limit × IsMoment at
+IsInRange (Enforce at) = IsMoment at
+IsInRange (Pressure critical at) = IsMoment at
+IsInRange (Limit limit at) = IsLimit limit × IsMoment at
+IsInRange (Remove client) = IsClient client
+IsInRange Granted = Unit {0}
 
 -- so does each word of each command
 abbrev pub AreInRange : Commands → Type 0

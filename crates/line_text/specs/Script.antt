@@ -4,14 +4,14 @@ use Rattle.std.specs.List.{count_by}
 use Rattle.std.specs.Option.{ok_or}
 use Rattle.std.specs.Str.{bytes_eq}
 use Rattle.units.specs.declared.TheConstants.{PAGE, LAST_MOMENT}
-use Rattle.line_text.specs.declared.limits.TheConstants.{MOST_SCRIPT_BYTES, MOST_COMMANDS, MOST_GRANTS, LAST_CLIENT, MOST_SEGMENT_PAGES, MOST_MOVED_BYTES}
+use Rattle.line_text.specs.declared.limits.TheConstants.{MOST_SCRIPT_BYTES, MOST_COMMANDS, MOST_GRANTS, LAST_CLIENT, MOST_SEGMENT_PAGES, MOST_LIMIT, MOST_MOVED_BYTES}
 use Rattle.line_text.specs.Number.{number_in}
 use Rattle.line_text.specs.Hex.{hex_of}
 use Rattle.line_text.specs.Lines.{kept_lines}
 use Rattle.line_text.specs.declared.cause.Cause.{Cause}
 use Rattle.line_text.specs.declared.cause.Cause.TheVariants as cause
 use Rattle.line_text.specs.declared.command.Command.{Command}
-use Rattle.line_text.specs.declared.command.Command.TheVariants.{Grant, Lock, Unlock, Write, Read, Try}
+use Rattle.line_text.specs.declared.command.Command.TheVariants.{Grant, Lock, Unlock, Write, Read, Try, Back, Reduce, Enforce, Pressure, Limit, Remove, Granted}
 use Rattle.line_text.specs.declared.fault.LineFault.{LineFault}
 use Rattle.line_text.specs.declared.fault.LineFault.TheVariants.{Refused, Memory}
 use Rattle.line_text.specs.declared.fault.ScriptFault.{ScriptFault}
@@ -48,6 +48,17 @@ first_page word = number word 0 (MOST_SEGMENT_PAGES - 1)
 -- a count of pages
 abbrev pub page_count : List ℕ → Result ℕ Cause
 page_count word = number word 1 MOST_SEGMENT_PAGES
+
+-- a limit of pages
+abbrev pub page_limit : List ℕ → Result ℕ Cause
+page_limit word = number word 0 MOST_LIMIT
+
+-- whether pressure is critical: `critical` or `moderate`
+abbrev pub is_critical : List ℕ → Result Bool Cause
+is_critical word =
+    if bytes_eq word (codes "critical") then Ok true
+    else if bytes_eq word (codes "moderate") then Ok false
+    else Err cause.Word
 
 -- the place of a byte in a segment
 abbrev pub byte_place : List ℕ → Result ℕ Cause
@@ -117,17 +128,83 @@ try_purge (s ∷ t ∷ []) = do
   Ok (Try id at)
 try_purge words = Err cause.Count
 
--- the command that the words of a line are, or the first cause against it
-abbrev pub command_of : List (List ℕ) → Result Command Cause
-command_of [] = Err cause.Word
-command_of (name ∷ words) =
+-- `back` S: the segment S is given back
+abbrev pub back : List (List ℕ) → Result Command Cause
+back (s ∷ []) = do
+  id ← segment s
+  Ok (Back id)
+back words = Err cause.Count
+
+-- `reduce` L T: granted pages are reduced to L, at T
+abbrev pub reduce : List (List ℕ) → Result Command Cause
+reduce (l ∷ t ∷ []) = do
+  limit ← page_limit l
+  at ← moment t
+  Ok (Reduce limit at)
+reduce words = Err cause.Count
+
+-- `enforce` T: granted pages are reduced to the manager's limit, at T
+abbrev pub enforce : List (List ℕ) → Result Command Cause
+enforce (t ∷ []) = do
+  at ← moment t
+  Ok (Enforce at)
+enforce words = Err cause.Count
+
+-- `pressure` W T: moderate or critical pressure, by the word W, at T
+abbrev pub pressure : List (List ℕ) → Result Command Cause
+pressure (w ∷ t ∷ []) = do
+  critical ← is_critical w
+  at ← moment t
+  Ok (Pressure critical at)
+pressure words = Err cause.Count
+
+-- `limit` L T: L becomes the manager's limit, and granted pages are reduced to it, at T
+abbrev pub limit : List (List ℕ) → Result Command Cause
+limit (l ∷ t ∷ []) = do
+  pages ← page_limit l
+  at ← moment t
+  Ok (Limit pages at)
+limit words = Err cause.Count
+
+-- `remove` C: each segment of the client C is counted off
+abbrev pub remove : List (List ℕ) → Result Command Cause
+remove (c ∷ []) = do
+  owner ← client c
+  Ok (Remove owner)
+remove words = Err cause.Count
+
+-- `granted`: how many pages are granted
+abbrev pub granted : List (List ℕ) → Result Command Cause
+granted [] = Ok Granted
+granted words = Err cause.Count
+
+-- a command to the manager, by its name
+abbrev pub manager_command : List ℕ → List (List ℕ) → Result Command Cause
+manager_command name words =
+    if bytes_eq name (codes "back") then back words
+    else if bytes_eq name (codes "reduce") then reduce words
+    else if bytes_eq name (codes "enforce") then enforce words
+    else if bytes_eq name (codes "pressure") then pressure words
+    else if bytes_eq name (codes "limit") then limit words
+    else if bytes_eq name (codes "remove") then remove words
+    else if bytes_eq name (codes "granted") then granted words
+    else Err cause.Word
+
+-- a command for one segment, or else one to the manager, by its name
+abbrev pub named_command : List ℕ → List (List ℕ) → Result Command Cause
+named_command name words =
     if bytes_eq name (codes "grant") then grant words
     else if bytes_eq name (codes "lock") then lock words
     else if bytes_eq name (codes "unlock") then unlock words
     else if bytes_eq name (codes "write") then write words
     else if bytes_eq name (codes "read") then read words
     else if bytes_eq name (codes "try") then try_purge words
-    else Err cause.Word
+    else manager_command name words
+
+-- the command that the words of a line are, or the first cause against it
+abbrev pub command_of : List (List ℕ) → Result Command Cause
+command_of [] = Err cause.Word
+command_of (name ∷ words) = named_command name words
 
 -- what reading a line gives is what is said of it, unless it is out of memory
 abbrev pub Gives : Result Command LineFault → Result Command Cause → Type 0

@@ -4,7 +4,8 @@ ghost use Rattle.line_text.specs.Script.{cause_number};
 /// Why a script is refused.
 #[derive(Clone, Copy, Debug, PartialEq, Eq)]
 pub enum Cause {
-    /// The first word of the line is no command.
+    /// The first word of the line is no command, or the word after `pressure` is neither `moderate`
+    /// nor `critical`.
     Word,
     /// The line has too few words for its command, or too many.
     Count,

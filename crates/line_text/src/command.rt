@@ -43,6 +43,37 @@ pub enum Command {
         id: u64,
         at: u64,
     },
+    /// Gives a segment back, and the manager counts it off.
+    Back {
+        id: u64,
+    },
+    /// Reduces granted pages to a limit, from 0 to 1,048,576 pages, at a moment.
+    Reduce {
+        limit: u64,
+        at: u64,
+    },
+    /// Reduces granted pages to the manager's limit, at a moment.
+    Enforce {
+        at: u64,
+    },
+    /// Reduces granted pages at a moment: to 0 under critical pressure, and to half the manager's
+    /// limit under moderate pressure.
+    Pressure {
+        critical: bool,
+        at: u64,
+    },
+    /// Sets the manager's limit, from 0 to 1,048,576 pages, and reduces granted pages to it, at a
+    /// moment.
+    Limit {
+        limit: u64,
+        at: u64,
+    },
+    /// Counts off each segment of a client from 1 to 64.
+    Remove {
+        client: u64,
+    },
+    /// Asks how many pages are granted.
+    Granted,
 }
 
 impl Command {

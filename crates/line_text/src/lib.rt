@@ -24,7 +24,7 @@ pub use laws::{
     law_first_refusal, law_in_range, law_lines_rise, law_one_spelling, law_scripts_are_spelled,
 };
 pub use limits::{
-    LAST_CLIENT, MOST_COMMANDS, MOST_GRANTS, MOST_MOVED_BYTES, MOST_SCRIPT_BYTES,
+    LAST_CLIENT, MOST_COMMANDS, MOST_GRANTS, MOST_LIMIT, MOST_MOVED_BYTES, MOST_SCRIPT_BYTES,
     MOST_SEGMENT_PAGES,
 };
 pub use line::{Cut, Line};

@@ -17,5 +17,8 @@ pub const LAST_CLIENT: u64 = 64;
 /// How many pages a segment of a script has at most: 2 MiB.
 pub const MOST_SEGMENT_PAGES: u64 = 512;
 
+/// How many pages a manager's limit has at most: 4 GiB.
+pub const MOST_LIMIT: u64 = 1_048_576;
+
 /// How many bytes a `write` or `read` asks for at most.
 pub const MOST_MOVED_BYTES: u64 = PAGE;

@@ -1,13 +1,13 @@
 ghost use Rattle.std.specs.Prelude.{◌≡◌, ◌≢◌, [], ◌∷◌, length, IfOk, IfErr};
 ghost use Rattle.line_text.specs.Lines.{words_of, HasNoWord, HasFirstWord};
-ghost use Rattle.line_text.specs.Script.{number, segment, client, moment, first_page, page_count, byte_place, byte_count, grant, lock, unlock, write, read, try_purge, command_of, Gives};
+ghost use Rattle.line_text.specs.Script.{number, segment, client, moment, first_page, page_count, byte_place, byte_count, grant, lock, unlock, write, read, try_purge, back, reduce, enforce, pressure, limit, remove, granted, page_limit, is_critical, manager_command, command_of, Gives};
 ghost use Rattle.line_text.specs.declared.cause.Cause.TheVariants.{Count};
 
 use crate::cause::Cause;
 use crate::command::Command;
 use crate::fault::LineFault;
 use crate::hexadecimal::read_hex;
-use crate::limits::{LAST_CLIENT, MOST_MOVED_BYTES, MOST_SEGMENT_PAGES};
+use crate::limits::{LAST_CLIENT, MOST_LIMIT, MOST_MOVED_BYTES, MOST_SEGMENT_PAGES};
 use crate::lines::split_word;
 use crate::number::read_number;
 use std::alloc::Global;
@@ -96,6 +96,24 @@ fn page_count(word: &[u8]) -> Result<u64, Cause>
     number(word, 1, MOST_SEGMENT_PAGES)
 }
 
+fn page_limit(word: &[u8]) -> Result<u64, Cause>
+    ensures { result ≡ page_limit word.now }
+{
+    number(word, 0, MOST_LIMIT)
+}
+
+fn is_critical(word: &[u8]) -> Result<bool, Cause>
+    ensures { result ≡ is_critical word.now }
+{
+    if word == b"critical".as_slice() {
+        Ok(true)
+    } else if word == b"moderate".as_slice() {
+        Ok(false)
+    } else {
+        Err(Cause::Word)
+    }
+}
+
 fn byte_place(word: &[u8]) -> Result<u64, Cause>
     ensures { result ≡ byte_place word.now }
 {
@@ -173,6 +191,90 @@ fn try_purge(words: &[u8]) -> Result<Command, Cause>
     })
 }
 
+fn back(words: &[u8]) -> Result<Command, Cause>
+    ensures { result ≡ back (words_of words.now) }
+{
+    let id = one_word(words)?;
+    Ok(Command::Back { id: segment(id)? })
+}
+
+fn reduce(words: &[u8]) -> Result<Command, Cause>
+    ensures { result ≡ reduce (words_of words.now) }
+{
+    let (limit, at) = two_words(words)?;
+    Ok(Command::Reduce {
+        limit: page_limit(limit)?,
+        at: moment(at)?,
+    })
+}
+
+fn enforce(words: &[u8]) -> Result<Command, Cause>
+    ensures { result ≡ enforce (words_of words.now) }
+{
+    let at = one_word(words)?;
+    Ok(Command::Enforce { at: moment(at)? })
+}
+
+fn pressure(words: &[u8]) -> Result<Command, Cause>
+    ensures { result ≡ pressure (words_of words.now) }
+{
+    let (want, at) = two_words(words)?;
+    Ok(Command::Pressure {
+        critical: is_critical(want)?,
+        at: moment(at)?,
+    })
+}
+
+fn limit(words: &[u8]) -> Result<Command, Cause>
+    ensures { result ≡ limit (words_of words.now) }
+{
+    let (limit, at) = two_words(words)?;
+    Ok(Command::Limit {
+        limit: page_limit(limit)?,
+        at: moment(at)?,
+    })
+}
+
+fn remove(words: &[u8]) -> Result<Command, Cause>
+    ensures { result ≡ remove (words_of words.now) }
+{
+    let owner = one_word(words)?;
+    Ok(Command::Remove {
+        client: client(owner)?,
+    })
+}
+
+fn granted(words: &[u8]) -> Result<Command, Cause>
+    ensures { result ≡ granted (words_of words.now) }
+{
+    match split_word(words) {
+        None => Ok(Command::Granted),
+        Some(_) => Err(Cause::Count),
+    }
+}
+
+fn manager_command(name: &[u8], words: &[u8]) -> Result<Command, Cause>
+    ensures { result ≡ manager_command name.now (words_of words.now) }
+{
+    if name == b"back".as_slice() {
+        back(words)
+    } else if name == b"reduce".as_slice() {
+        reduce(words)
+    } else if name == b"enforce".as_slice() {
+        enforce(words)
+    } else if name == b"pressure".as_slice() {
+        pressure(words)
+    } else if name == b"limit".as_slice() {
+        limit(words)
+    } else if name == b"remove".as_slice() {
+        remove(words)
+    } else if name == b"granted".as_slice() {
+        granted(words)
+    } else {
+        Err(Cause::Word)
+    }
+}
+
 /// The command that a line is, whose first word is its name.
 pub(crate) fn command(alloc: Global, name: &[u8], words: &[u8]) -> Result<Command, LineFault>
     ensures { Gives result (command_of (name.now ∷ words_of words.now)) }
@@ -190,6 +292,6 @@ pub(crate) fn command(alloc: Global, name: &[u8], words: &[u8]) -> Result<Comman
     } else if name == b"try".as_slice() {
         Ok(try_purge(words)?)
     } else {
-        Err(LineFault::Refused(Cause::Word))
+        Ok(manager_command(name, words)?)
     }
 }
