@@ -1,0 +1,9 @@
+pub mod Config
+pub mod State
+pub mod Reductions
+pub mod Least
+pub mod Known
+pub mod Run
+pub mod Commands
+pub mod Replies
+pub mod Records

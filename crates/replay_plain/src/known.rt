@@ -1,0 +1,187 @@
+//! What a run keeps of the granted segments: what a reduction has to know of each.
+ghost use Rattle.std.specs.Prelude.{◌*◌, ◌≤◌, vec_len};
+ghost use Rattle.units.specs.declared.TheConstants.{MOST_PAGES};
+
+use crate::least::{Least, first_of};
+use std::alloc::Global;
+use units::NoMemory;
+
+/// What is kept of one number.
+#[derive(Clone, Copy)]
+pub(crate) struct KnownSegment {
+    /// The client that it was granted to.
+    client: u32,
+    pages: u32,
+    /// The known use, a moment, or 0 where none is known.
+    known: u64,
+    /// Granted, and neither purged nor given back.
+    live: bool,
+    /// Granted, and not given back.
+    plain: bool,
+}
+
+/// What is kept of all numbers that were drawn, and the pages of the live segments.
+#[derive(Drop)]
+pub(crate) struct KnownSegments {
+    /// By number. The number 0 is never drawn, and its place says so.
+    table: Vec<KnownSegment>,
+    pages: u128,
+    ghost some: { 1 ≤ vec_len table },
+    ghost bounded: { pages ≤ MOST_PAGES * vec_len table },
+}
+
+impl KnownSegments {
+    ghost use Rattle.std.specs.Prelude.{◌≡◌, ◌+◌, ◌<◌, ◌++◌, ◌∷◌, [], List, ℕ, ◌==◌, ◌&&◌, IfOk, OnOk, option_map};
+    ghost use Rattle.machine.specs.declared.event.Event.{Event};
+    ghost use Rattle.machine.specs.declared.event.Event.TheVariants as event;
+    ghost use Rattle.machine.specs.declared.event.Answer.TheVariants as answers;
+    ghost use Rattle.machine.specs.Reduction.{least};
+    ghost use Rattle.machine.specs.History.{client_of};
+    ghost use Rattle.machine.specs.Answers.{answer, answered, plain};
+    ghost use Rattle.replay_plain.specs.State.{known_use};
+    ghost use Rattle.replay_plain.specs.Reductions.{live_segments};
+    ghost use Rattle.replay_plain.specs.Least.{least_told};
+    ghost use Rattle.replay_plain.specs.Known.{TellsAll};
+
+    /// No number was drawn.
+    pub(crate) fn new(alloc: Global) -> Result<KnownSegments, NoMemory>
+        ensures { IfOk result (λ known. TellsAll [] known) }
+    {
+        let mut table = Vec::new(alloc);
+        table.push(KnownSegment {
+            client: 0,
+            pages: 0,
+            known: 0,
+            live: false,
+            plain: false,
+        })?;
+        Ok(KnownSegments { table, pages: 0 })
+    }
+
+    /// The number that the next grant draws.
+    pub(crate) fn next(&self) -> u64
+        ensures { result ≡ vec_len self.now.table }
+    {
+        self.table.len() as u64
+    }
+
+    /// The pages of the live segments.
+    pub(crate) fn pages(&self) -> u128
+        ensures { result ≡ self.now.pages }
+    {
+        self.pages
+    }
+
+    /// The next number was granted.
+    pub(crate) fn granted(&mut self, client: u32, pages: u32) -> Result<(), NoMemory>
+        requires few { pages ≤ MOST_PAGES }
+        ensures { OnOk result ((events : List Event) (id : ℕ) → TellsAll events self.old
+            → answer events (event.Grant id client pages) ≡ answers.Granted id
+            → id ≡ vec_len self.old.table
+            → TellsAll (events ++ event.Grant id client pages ∷ []) self.new) }
+    {
+        self.table.push(KnownSegment {
+            client,
+            pages,
+            known: 0,
+            live: true,
+            plain: true,
+        })?;
+        self.pages += u128::from(pages);
+        Ok(())
+    }
+
+    /// A try found that the segment of this number is used.
+    pub(crate) fn used(&mut self, id: u64, known: u64)
+        ensures { (events : List Event) (now : ℕ) → TellsAll events self.old
+            → answer events (event.Try id now) ≡ answers.Used known
+            → TellsAll (events ++ event.Try id now ∷ []) self.new }
+    {
+        let place = id as usize;
+        if place < self.table.len() {
+            self.table[place].known = known;
+        }
+    }
+
+    /// A try purged the segment of this number. It answers its known use.
+    pub(crate) fn purged(&mut self, id: u64) -> u64
+        ensures tells { (events : List Event) (now : ℕ) → TellsAll events self.old
+            → answer events (event.Try id now) ≡ answers.Taken
+            → TellsAll (events ++ event.Try id now ∷ []) self.new }
+        ensures known { (events : List Event) (now : ℕ) → TellsAll events self.old
+            → answer events (event.Try id now) ≡ answers.Taken
+            → result ≡ known_use events id }
+    {
+        let place = id as usize;
+        if place >= self.table.len() {
+            return 0;
+        }
+        let segment = &mut self.table[place];
+        segment.live = false;
+        self.pages = self.pages.saturating_sub(u128::from(segment.pages));
+        segment.known
+    }
+
+    /// The segment of this number, which was live, was given back.
+    pub(crate) fn counted(&mut self, id: u64)
+        ensures { (events : List Event) → TellsAll events self.old
+            → answer events (event.Back id) ≡ answers.Counted
+            → TellsAll (events ++ event.Back id ∷ []) self.new }
+    {
+        let place = id as usize;
+        if place < self.table.len() {
+            let segment = &mut self.table[place];
+            segment.live = false;
+            segment.plain = false;
+            self.pages = self.pages.saturating_sub(u128::from(segment.pages));
+        }
+    }
+
+    /// The segment of this number, which was purged, was given back.
+    pub(crate) fn returned(&mut self, id: u64)
+        ensures { (events : List Event) → TellsAll events self.old
+            → answer events (event.Back id) ≡ answers.Purged
+            → TellsAll (events ++ event.Back id ∷ []) self.new }
+    {
+        let place = id as usize;
+        if place < self.table.len() {
+            let segment = &mut self.table[place];
+            segment.live = false;
+            segment.plain = false;
+        }
+    }
+
+    /// Whether the number is that of a client's segment that was not given back.
+    pub(crate) fn has(&self, client: u32, id: u64) -> bool
+        ensures { (events : List Event) → TellsAll events self.now → id < vec_len self.now.table
+            → result ≡ (client_of (answered events) id == client && plain events id) }
+    {
+        match self.table.get(id as usize) {
+            Some(segment) => segment.client == client && segment.plain,
+            None => false,
+        }
+    }
+
+    /// The live segment of the least known use, and among those of the same the one of the least
+    /// number.
+    pub(crate) fn least(&self) -> Option<Least>
+        ensures { (events : List Event) → TellsAll events self.now
+            → result ≡ option_map least_told (least (live_segments events)) }
+    {
+        let mut best = None;
+        for passed in 1..self.table.len() {
+            let number = self.table.len() - passed;
+            let segment = self.table[number];
+            if segment.live {
+                best = Some(first_of(
+                    best,
+                    Least {
+                        id: number as u64,
+                        known: segment.known,
+                    },
+                ));
+            }
+        }
+        best
+    }
+}

@@ -1,0 +1,9 @@
+use Rattle.std.proofs.Common.{◌≡◌, refl, sym, ap, ◌∙◌}
+use Rattle.discard_book.specs.Live.{grants, granted}
+use Rattle.replay_real.proofs.Following.{stands_first}
+use Rattle.replay_real.proofs.run.RealRun.new.Goals as goal
+
+pub returns-clause-first : goal.returns-clause-first
+returns-clause-first c =
+    stands_first c.args.cfg.now c.in_ok-new.field-0 c.in_ok-new-2.field-0 c.in_ok-new.ensures.entries c.in_ok-new.ensures.limit
+    c.in_ok-new-2.ensures.shows c.in_ok-new-2.ensures.clients c.in_ok-new-2.ensures.places

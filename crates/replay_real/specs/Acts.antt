@@ -1,0 +1,122 @@
+-- What was done at a command, whatever happened before it, and what was told of that.
+use Rattle.std.specs.Prelude.{◌≡◌, ◌≢◌, ℕ, ◌<◌, List, ◌++◌, length, drop, None, Option}
+use Rattle.segment.specs.Owned.{Owned}
+use Rattle.discard_book.specs.Live.{granted}
+use Rattle.line_text.specs.declared.command.Command.{Command}
+use Rattle.line_text.specs.declared.command.Command.TheVariants as command
+use Rattle.machine.specs.declared.event.Answer.{Answer}
+use Rattle.machine.specs.declared.event.Answer.TheVariants as answer
+use Rattle.lru_reduce.specs.declared.reduction.Reduced.{Reduced}
+use Rattle.manager_state.specs.declared.answers.Back.{Back}
+use Rattle.manager_state.specs.declared.answers.Back.TheVariants as back
+use Rattle.manager_state.specs.declared.answers.Tried.{Tried}
+use Rattle.manager_state.specs.declared.answers.Tried.TheVariants as tried
+use Rattle.manager_state.specs.Managed.{Managed}
+use Rattle.manager_state.specs.Calls.{Reduces, Grants, TriesOne, GivesBack, Removes}
+use Rattle.replay_plain.specs.Commands.{pressed}
+use Rattle.replay_plain.specs.Replies.{answer_text, back_answer_text, reduced_words, removed_words, granted_words}
+use Rattle.replay_real.specs.declared.run.RealRun.{RealRun}
+use Rattle.replay_real.specs.declared.owners.Given.{Given}
+use Rattle.replay_real.specs.Owners.{given_at, GaveUp}
+
+-- a segment was granted, and its number told
+pub record GrantsAndTells (client pages now : ℕ) (old new : Managed) (before after : List ℕ) : Type 0 where
+  pub side : Owned
+  pub grants : Grants client pages now side old new
+  pub words : after ≡ before ++ answer_text (answer.Granted side.id)
+
+-- the words of a reduction that told this, between these states of the manager
+abbrev pub told_words : Reduced → Managed → Managed → List ℕ
+told_words told old new =
+    reduced_words told.after told.least (drop (length old.entries) new.entries)
+
+-- granted pages were reduced to a limit at a moment, and that was told
+pub record ReducesAndTells (limit now : ℕ) (old new : Managed) (before after : List ℕ) : Type 0 where
+  pub told : Reduced
+  pub reduces : Reduces limit now told old new
+  pub words : after ≡ before ++ told_words told old new
+
+-- the limit was set, granted pages were reduced to it, and that was told
+abbrev pub SetsAndTells : ℕ → ℕ → Managed → Managed → List ℕ → List ℕ → Type 0
+SetsAndTells limit now old new before after =
+    ReducesAndTells limit now (record old { limit = limit }) new before after
+
+-- what a try answered, as an answer of the machine: a segment that is not live is misuse
+abbrev pub try_answer : Tried → Answer
+try_answer tried.Taken = answer.Taken
+try_answer (tried.Used known) = answer.Used known
+try_answer tried.NotLive = answer.Misuse
+
+-- a purge try was made, and its answer told
+pub record TriesAndTells (id now : ℕ) (old new : Managed) (before after : List ℕ) : Type 0 where
+  pub told : Tried
+  pub tries : TriesOne id now told old new
+  pub words : after ≡ before ++ answer_text (try_answer told)
+
+-- what a return answered, as an answer of the machine: a number that is not known is misuse
+abbrev pub back_answer : Back → Answer
+back_answer back.Counted = answer.Counted
+back_answer back.Purged = answer.Purged
+back_answer back.Unknown = answer.Misuse
+
+-- a segment was given up and back by the client that it was granted to, and the answer told
+pub record ReturnsAndTells (id : ℕ) (table left : List Given) (old new : Managed) (before after : List ℕ) : Type 0 where
+  pub told : Back
+  pub block : Option (List ℕ)
+  pub gave : GaveUp (given_at table id).owner block
+  pub returns : GivesBack (given_at table id).client id block told old new
+  pub ended : (given_at left id).owner ≡ None
+  pub words : after ≡ before ++ back_answer_text (back_answer told)
+
+-- a plain segment was given up, and its block, where there was one, handed in by its client
+pub record HandsIn (client id : ℕ) (old new : RealRun) : Type 0 where
+  pub told : Back
+  pub block : Option (List ℕ)
+  pub gave : GaveUp (given_at old.owners id).owner block
+  pub returns : GivesBack client id block told old.state new.state
+
+-- each plain segment of a client was given up, and no other
+pub record Releases (client : ℕ) (old new : List Given) : Type 0 where
+  pub ended : (id : ℕ) → (given_at old id).client ≡ client → (given_at new id).owner ≡ None
+  pub others : (id : ℕ) → (given_at old id).client ≢ client → given_at new id ≡ given_at old id
+
+-- each plain segment of a client with a number below this one was given up, and no other; each
+-- number is with the same client
+pub record ReleasesBelow (client end : ℕ) (old new : List Given) : Type 0 where
+  pub ended : (id : ℕ) → id < end → (given_at old id).client ≡ client → (given_at new id).owner ≡ None
+  pub others : (id : ℕ) → (given_at old id).client ≢ client → given_at new id ≡ given_at old id
+  pub clients : (id : ℕ) → (given_at new id).client ≡ (given_at old id).client
+  pub places : length new ≡ length old
+
+-- A client was removed: its live segments were counted off, and then each of its plain segments
+-- was given up. How many were counted off was told.
+pub record RemovesAndTells (client : ℕ) (old new : RealRun) (before after : List ℕ) : Type 0 where
+  pub removed : ℕ
+  pub between : Managed
+  pub removes : Removes client removed old.state between
+  pub released : Releases client old.owners new.owners
+  pub words : after ≡ before ++ removed_words removed
+
+-- What was done at a command. An owner's command leaves the manager alone.
+abbrev pub Acts : Command → RealRun → RealRun → List ℕ → List ℕ → Type 0
+Acts (command.Grant client pages at) old new before after =
+    GrantsAndTells client pages at old.state new.state before after
+Acts (command.Lock id first count) old new before after = new.state ≡ old.state
+Acts (command.Unlock id first count at) old new before after = new.state ≡ old.state
+Acts (command.Write id place bytes) old new before after = new.state ≡ old.state
+Acts (command.Read id place count) old new before after = new ≡ old
+Acts (command.Try id at) old new before after =
+    TriesAndTells id at old.state new.state before after
+Acts (command.Back id) old new before after =
+    ReturnsAndTells id old.owners new.owners old.state new.state before after
+Acts (command.Reduce limit at) old new before after =
+    ReducesAndTells limit at old.state new.state before after
+Acts (command.Enforce at) old new before after =
+    ReducesAndTells old.state.limit at old.state new.state before after
+Acts (command.Pressure critical at) old new before after =
+    ReducesAndTells (pressed critical old.state.limit) at old.state new.state before after
+Acts (command.Limit limit at) old new before after =
+    SetsAndTells limit at old.state new.state before after
+Acts (command.Remove client) old new before after = RemovesAndTells client old new before after
+Acts command.Granted old new before after =
+    (new ≡ old) × (after ≡ before ++ granted_words (granted old.state.entries))

@@ -1,0 +1,4 @@
+pub mod Owner
+pub mod Owners
+pub mod Standing
+pub mod Acts
