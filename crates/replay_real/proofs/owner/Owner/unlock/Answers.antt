@@ -22,7 +22,7 @@ returns-then-staying-gt0-clause-answer c = λ h s before.
     let w = subst (λ (k : Kept). Shows h s k) (sym c.self.view_is) before in
     still_held_answer h s c.args.first c.args.count c.args.at c.count-staying.result kept c.unlock.new.self w
     (unlock_taken h s c.args.first c.args.count c.args.at kept _ w refl c.if-not-is_locked.ensures refl c.requires)
-    c.unlock.ensures c.count-staying.ensures (omega (arith, c.if-staying-gt0.true))
+    c.unlock.ensures c.count-staying.ensures (omega arith)
 
 pub returns-then-staying-gt0-clause-after : goal.returns-then-staying-gt0-clause-after
 returns-then-staying-gt0-clause-after c = λ h s before.
@@ -36,7 +36,7 @@ returns-clause-answer c = λ h s before.
     ap Idle (c.last.ensures ∙ ap (λ (o : Owned). o.last) c.unlock-2.ensures)
     ∙ idle_answer h s c.args.first c.args.count c.args.at c.count-staying.result kept c.unlock.new.self w
     (unlock_taken h s c.args.first c.args.count c.args.at kept _ w refl c.if-not-is_locked.ensures refl c.requires)
-    c.unlock.ensures c.count-staying.ensures c.if-staying-gt0.false
+    c.unlock.ensures c.count-staying.ensures (omega arith)
 
 pub returns-clause-after : goal.returns-clause-after
 returns-clause-after c = λ h s before.
