@@ -37,7 +37,7 @@ AreLive-remove sides place new ok inside =
 abbrev pub noted : ℕ → ℕ → Warded → Warded
 noted now word w = record w { tries = (now, word) ∷ w.tries }
 
-noted_at-id : (now word id : ℕ) (w : Warded) → number_of (noted_at now word id w) ≡ number_of w
+pub noted_at-id : (now word id : ℕ) (w : Warded) → number_of (noted_at now word id w) ≡ number_of w
 noted_at-id now word id w = elim (w.id == id) as (λ b. number_of (cond b (noted now word w) w) ≡ number_of w) [
   | true ↦ refl
   | false ↦ refl
@@ -72,10 +72,10 @@ known_some : (tries : List (ℕ × ℕ)) → 1 ≤ known_by tries → known_use 
 known_some [] least = absurd (omega (arith, least))
 known_some (t ∷ tries) least = refl
 
-pub won_at : (now place word spare : ℕ) (sides moved : List Warded) (old new : Warded) (block : List ℕ) → AreLive sides → place < length sides → old ≡ get_or sides place old
+pub won_at : (now place word : ℕ) (sides moved : List Warded) (old new : Warded) (block : List ℕ) → AreLive sides → place < length sides → old ≡ get_or sides place old
     → word ≡ 2 * known_by old.tries → length block ≡ PAGE * old.pages → IsTimely word old.tries → moved ≡ remove (set sides place new) place
-    → WinsAt now place old.id old.pages (known_by old.tries) block (record { sides = sides; spare = spare }) (record { sides = moved; spare = spare })
-won_at now place word spare sides moved old new block ok inside here same sized timely left =
+    → WinsAt now place old.id old.pages (known_by old.tries) block sides moved
+won_at now place word sides moved old new block ok inside here same sized timely left =
     let known = known_by old.tries in
     let facts = timely (λ one. twice known (sym same ∙ one)) in
     let gone : moved ≡ remove sides place = left ∙ remove-set sides place new in
@@ -93,16 +93,15 @@ won_at now place word spare sides moved old new block ok inside here same sized 
       moment = let high = facts.0.1 in (low, omega (arith, same, high));
       sized = sized;
       sides = rw won (gone ∙ remove-but number_of sides place old ok.rising inside ∙ ap (λ (w : Warded). filter (λ (v : Warded). not (v.id == w.id)) sides) first);
-      room = refl;
       fewer = rw gone fewer;
       left = rw (gone, pages_sum (remove sides place), pages_sum sides) (ap (λ n. sum_by (λ (w : Warded). w.pages) (remove sides place) + n) (sym paid) ∙ pages);
       less = rw gone (omega (arith, works, some));
     }
 
-pub lost_at : (now place word known spare : ℕ) (sides : List Warded) (old new : Warded) → AreLive sides → place < length sides → old ≡ get_or sides place old
+pub lost_at : (now place word known : ℕ) (sides : List Warded) (old new : Warded) → AreLive sides → place < length sides → old ≡ get_or sides place old
     → word ≢ 2 * known_by old.tries → IsTimely word old.tries → new ≡ noted now word old → known_use new.tries ≡ Some known
-    → LosesAt now place known (record { sides = sides; spare = spare }) (record { sides = set sides place new; spare = spare })
-lost_at now place word known spare sides old new ok inside here other timely changed told =
+    → LosesAt now place known sides (set sides place new)
+lost_at now place word known sides old new ok inside here other timely changed told =
     let lost : (word == 2 * known_by old.tries) ≡ false = same_no word (2 * known_by old.tries) other in
     let works = sum_by-set (λ (w : Warded). work_of now w) sides place new old inside in
     let was : work_of now (get_or sides place old) ≡ work_of now old = ap (λ (w : Warded). work_of now w) (sym here) in
@@ -114,6 +113,5 @@ lost_at now place word known spare sides old new ok inside here other timely cha
       renewed = let e : Some (used_after now word) ≡ Some known = sym (ap (λ (w : Warded). known_use w.tries) changed) ∙ told in cc;
       other = other;
       sides = rw lost (set_is now place word sides old new ok inside here changed);
-      room = refl;
       less = λ before. let falls = less_left now word old.tries before other timely in omega (arith, works, was, is, falls);
     }

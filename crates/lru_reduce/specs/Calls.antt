@@ -15,6 +15,13 @@ abbrev pub placed : Warded → List Warded → List Warded
 placed w [] = w ∷ []
 placed w (v ∷ more) = if nat_lt w.id v.id then w ∷ v ∷ more else v ∷ placed w more
 
+-- the warden of this number was taken out, as it stood
+pub record TakesNumber (id : ℕ) (w : Warded) (old new : List Warded) : Type 0 where
+  pub stood : Contains old w
+  pub number : w.id ≡ id
+  pub free : w.taken ≡ false
+  pub sides : new ≡ without_ward id old
+
 -- the place of the first greater number, or the end
 abbrev pub place_above : ℕ → List Warded → ℕ
 place_above id sides = position_or_len (λ (w : Warded). nat_lt id w.id) sides
