@@ -4,7 +4,7 @@ use Rattle.std.specs.List.{Contains}
 use Rattle.std.specs.List.Sorted.{IsPermutation}
 use Rattle.std.proofs.lemmas.Bool.{cases_eq, eqb-true}
 use Rattle.std.proofs.lemmas.List.{get_or_read, get_or-map, length-map}
-use Rattle.std.proofs.lemmas.List.Elements.{Contains-get_or, All-contains}
+use Rattle.std.proofs.lemmas.List.Elements.{Contains-get_or}
 use Rattle.std.proofs.lemmas.List.Sorted.{IsPermutation-sym, Contains-permutation, length_permutation}
 use Rattle.std.proofs.lemmas.Map.Made.{Contains-tail}
 use Rattle.machine.specs.Reduction.{use_of}
@@ -13,8 +13,8 @@ use Rattle.discard_book.specs.Live.{has_number}
 use Rattle.lru_reduce.specs.Wards.{candidate_of, segments_of}
 use Rattle.lru_reduce.specs.Calls.{IsKnownUse}
 use Rattle.lru_reduce.specs.Turns.{IsPlaceOf}
-use Rattle.lru_reduce.specs.Entries.{IsFirst, GoesFirst, key_of, keys_of, HoldsEach, HoldsOthers, HasLiveFront, HasDeadFront, DropsFirst, IsKeyed}
-use Rattle.lru_reduce.proofs.Firsts.{head_in, later_in, same_first}
+use Rattle.lru_reduce.specs.Entries.{IsFirst, key_of, keys_of, HoldsEach, HoldsOthers, HasDeadFront, DropsFirst, IsKeyed}
+use Rattle.lru_reduce.proofs.Firsts.{head_in, later_in}
 use Rattle.lru_reduce.proofs.Keyed.{same_yes}
 
 -- Elements of a mapped list
@@ -147,26 +147,3 @@ keyed_filled sides keys moved = record {
   each = each_filled sides keys moved;
   front = λ k first. Contains-permutation keys (keys_of sides) k (IsPermutation-sym (keys_of sides) keys moved) first.0;
 }
-
--- what is first is one
-pub front_by : (k : ℕ × ℕ) (sides : List Warded) (keys : List (ℕ × ℕ)) → IsFirst k keys → Contains (keys_of sides) k → HasLiveFront sides keys
-front_by k sides keys first live o one =
-    let same : k ≡ o = same_first k o (All-contains (GoesFirst k) keys o first.1 one.0) (All-contains (GoesFirst o) keys k one.1 first.0) in
-    subst (λ (n : ℕ × ℕ). Contains (keys_of sides) n) same live
-
-pub dead_by : (k : ℕ × ℕ) (sides : List Warded) (keys : List (ℕ × ℕ)) → IsFirst k keys → (Contains (keys_of sides) k → ⊥) → HasDeadFront sides keys
-dead_by k sides keys first dead = record {
-  some = let l = first.0.1 in omega (arith, l);
-  dead = λ o one there.
-      let same : k ≡ o = same_first k o (All-contains (GoesFirst k) keys o first.1 one.0) (All-contains (GoesFirst o) keys k one.1 first.0) in
-      dead (subst (λ (n : ℕ × ℕ). Contains (keys_of sides) n) (sym same) there);
-}
-
-pub same_number : (k : ℕ × ℕ) (keys : List (ℕ × ℕ)) → IsFirst k keys → (o : ℕ × ℕ) → IsFirst o keys → o.1 ≡ k.1
-same_number k keys first o one =
-    let same : k ≡ o = same_first k o (All-contains (GoesFirst k) keys o first.1 one.0) (All-contains (GoesFirst o) keys k one.1 first.0) in
-    ap (λ (n : ℕ × ℕ). n.1) (sym same)
-
-pub empty_front : (sides : List Warded) (keys : List (ℕ × ℕ)) → keys ≡ [] → HasLiveFront sides keys
-empty_front sides [] e o one = let l = one.0.1 in absurd (omega (arith, l))
-empty_front sides (k ∷ keys) e o one = cc

@@ -47,10 +47,6 @@ is_first d b e = by (nat_lt (use_of d) (use_of b)) refl
     by true l = inl (grind (arith, nat_tests, l))
     by false l = inr (grind (arith, nat_tests, l, e), grind (arith, nat_tests, l, e))
 
--- two that go before each other are one
-one_entry : (a b : ℕ × ℕ) → GoesFirst a b → GoesFirst b a → a ≡ b
-one_entry a b first second = same_first a b first second
-
 not_after : (k : ℕ × ℕ) (d b : Candidate) → entry_of b ≡ k → GoesFirst k (entry_of d) → comes_first d b ≡ true → ⊥
 not_after k d b is goes e = by goes (is_first d b e)
   where

@@ -1,6 +1,6 @@
 -- What the calls of an order answer, and what they change.
 use Rattle.std.specs.Prelude.{◌≡◌, ◌≢◌, ℕ, ◌+◌, ◌*◌, nat_lt, Bool, true, false, if◌then◌else◌, List, [], ◌∷◌, length, Option, Some, None, slice_index_or}
-use Rattle.std.specs.List.{position_or_len, Contains}
+use Rattle.std.specs.List.{Contains}
 use Rattle.units.specs.declared.TheConstants.{PAGE}
 use Rattle.units.specs.Moment.{IsMoment}
 use Rattle.machine.specs.Reduction.{Candidate, use_of, least}
@@ -21,10 +21,6 @@ pub record TakesNumber (id : ℕ) (w : Warded) (old new : List Warded) : Type 0 
   pub number : w.id ≡ id
   pub free : w.taken ≡ false
   pub sides : new ≡ without_ward id old
-
--- the place of the first greater number, or the end
-abbrev pub place_above : ℕ → List Warded → ℕ
-place_above id sides = position_or_len (λ (w : Warded). nat_lt id w.id) sides
 
 -- the least of the segments stands at this place
 abbrev pub IsLeastAt : ℕ → List Warded → Type 0
