@@ -4,7 +4,6 @@ ghost use Rattle.std.specs.Prelude.{◌≡◌, ◌≤◌, ◌<◌, ℕ, List, tr
 ghost use Rattle.std.specs.List.{Contains};
 ghost use Rattle.std.specs.List.Sorted.{IsPermutation};
 ghost use Rattle.segment.specs.Warded.{Warded};
-ghost use Rattle.lru_reduce.specs.Wards.{AreLive};
 ghost use Rattle.lru_reduce.specs.Calls.{IsKnownUse};
 ghost use Rattle.lru_reduce.specs.Entries.{IsFirst, HoldsEach, HoldsOthers, HasLiveFront, HasDeadFront, IsKeyed, keys_of};
 
@@ -13,7 +12,6 @@ use crate::table::Table;
 
 /// Drops the dead entries at the front.
 pub(crate) fn settle(table: &Table, keys: &mut Keys)
-    requires live { AreLive table.now.sides }
     requires each { HoldsEach table.now.sides keys.old.keys }
     ensures keyed { IsKeyed table.now.sides keys.new.keys }
     ensures room { keys.new.room ≡ keys.old.room }
@@ -36,7 +34,6 @@ pub(crate) fn refill(table: &Table, keys: &mut Keys)
 /// Adds the entry of a number, where each of the others has its own, and drops the dead ones at the
 /// front. An old entry of this number leaves where it stands at the front.
 pub(crate) fn renew(table: &Table, keys: &mut Keys, id: u64, known: u64)
-    requires live { AreLive table.now.sides }
     requires others { HoldsOthers id table.now.sides keys.old.keys }
     requires known { IsKnownUse id known table.now.sides }
     requires room { length table.now.sides ≤ keys.old.room }
@@ -50,7 +47,8 @@ pub(crate) fn renew(table: &Table, keys: &mut Keys, id: u64, known: u64)
 
 /// Drops the front where it is an entry of this number.
 fn drop_front(keys: &mut Keys, id: u64)
-    ensures others { (sides : List Warded) → HoldsOthers id sides keys.old.keys → HoldsOthers id sides keys.new.keys }
+    ensures others { (sides : List Warded)
+        → HoldsOthers id sides keys.old.keys → HoldsOthers id sides keys.new.keys }
     ensures room { keys.new.room ≡ keys.old.room }
 {
     if has_front(keys, id) {

@@ -44,7 +44,8 @@ fn guess(slots: &[Slot], id: u64) -> usize {
 /// Whether the slot of a number stands at a place.
 fn is_at(slots: &[Slot], place: usize, id: u64) -> bool
     ensures yes { result ≡ true → IsSlotOf id place slots.now }
-    ensures no { result ≡ false → (d : Slot) → place < length slots.now → (slice_index_or slots.now place d).id ≢ id }
+    ensures no { result ≡ false
+        → (d : Slot) → place < length slots.now → (slice_index_or slots.now place d).id ≢ id }
 {
     place < slots.len() && slots[place].id == id
 }

@@ -4,8 +4,8 @@ use Rattle.lru_reduce.proofs.Placed.{all_stay}
 use Rattle.lru_reduce.proofs.Ordered.{each_left, left_long}
 use Rattle.lru_reduce.proofs.order.Order.forget.Goals as goal
 
-pub settle-requires-clause-each : goal.settle-requires-clause-each
-settle-requires-clause-each c = each_left c.args.id c.self.inside.table.sides c.take.new.self.sides c.self.inside.keys.keys c.in-Some.ensures.some.sides c.self.invariant.1.each
+pub settle-requires : goal.settle-requires
+settle-requires c = record { each = each_left c.args.id c.self.inside.table.sides c.take.new.self.sides c.self.inside.keys.keys c.in-Some.ensures.some.sides c.self.invariant.1.each }
 
 pub invariant_of-self-2 : goal.invariant_of-self-2
 invariant_of-self-2 c =

@@ -9,8 +9,8 @@ returns-in_err-id c =
 pub returns-in_err-side : goal.returns-in_err-side
 returns-in_err-side c = absurd (front_live (c.in_ok-id.field-0-0, c.in_ok-id.id) c.self.inside.table.sides c.self.inside.keys.keys c.self.invariant.1 c.in_ok-id.ensures.some c.in_err-side.ensures.live)
 
-pub settle-requires-clause-each : goal.settle-requires-clause-each
-settle-requires-clause-each c = each_left c.in_ok-id.id c.self.inside.table.sides c.take.new.self.sides c.self.inside.keys.keys c.in_ok-side.ensures.some.sides c.self.invariant.1.each
+pub settle-requires : goal.settle-requires
+settle-requires c = record { each = each_left c.in_ok-id.id c.self.inside.table.sides c.take.new.self.sides c.self.inside.keys.keys c.in_ok-side.ensures.some.sides c.self.invariant.1.each }
 
 pub overflow_add-self : goal.overflow_add-self
 overflow_add-self c =

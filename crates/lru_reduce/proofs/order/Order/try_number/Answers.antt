@@ -3,14 +3,14 @@ use Rattle.lru_reduce.proofs.Tried.{number_won, number_lost}
 use Rattle.lru_reduce.proofs.Ordered.{left_won, each_left, noted_is, others_noted, known_noted, long_noted}
 use Rattle.lru_reduce.proofs.order.Order.try_number.Goals as goal
 
-pub settle-requires-clause-each : goal.settle-requires-clause-each
-settle-requires-clause-each c =
+pub settle-requires : goal.settle-requires
+settle-requires c =
     let old = c.self.inside.table.sides in
     let new = c.try_number.new.self.sides in
     let w = c.in-Ok.won in
     let wins = number_won c.args.id c.args.now c.in_ok-tried.tried w old new c.in-Ok.is c.in_ok-tried.ensures.won in
     let left = left_won c.args.id c.args.now w.pages w.known w.block old new (sym c.in_ok-tried.ensures.live) wins in
-    each_left c.args.id old new c.self.inside.keys.keys left.sides c.self.invariant.1.each
+    record { each = each_left c.args.id old new c.self.inside.keys.keys left.sides c.self.invariant.1.each }
 
 pub invariant_of-self-in-Ok : goal.invariant_of-self-in-Ok
 invariant_of-self-in-Ok c =
