@@ -1,0 +1,4 @@
+pub mod Counting
+pub mod Growth
+pub mod StateGrows
+pub mod Keeping

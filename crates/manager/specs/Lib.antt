@@ -1,0 +1,4 @@
+pub mod Counted
+pub mod Tokens
+pub mod Grows
+pub mod Ends
