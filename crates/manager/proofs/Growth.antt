@@ -55,9 +55,8 @@ zero_more n = omega arith
 purges_count : (test : Entry → Bool) (none : (c : Candidate) → test (purge_of c) ≡ false) (cs : List Candidate) (tail : List Entry)
     → count_by test (map purge_of cs ++ tail) ≡ count_by test tail
 purges_count test none [] tail = refl
-purges_count test none (c ∷ cs) tail =
-    ap (λ (b : Bool). cond {A = ℕ} b 1 0 + count_by test (map purge_of cs ++ tail)) (none c) ∙ zero_more (count_by test (map purge_of cs ++ tail)) ∙ purges_count test none cs tail
-
+purges_count test none (c ∷ cs) tail = let rest : List Entry = map purge_of cs ++ tail in
+    count_by-append test (purge_of c ∷ []) rest ∙ ap (λ (b : Bool). (0 + cond {A = ℕ} b 1 0) + count_by test rest) (none c) ∙ zero_more (count_by test rest) ∙ purges_count test none cs tail
 
 -- whatever its limit
 pub grows_reduced : (limit : ℕ) (cs : List Candidate) (to now after : ℕ) (least : _) (xs ys : List Entry) → ys ≡ (xs ++ map purge_of cs) ++ entry.Reduced to now after least ∷ [] → Grows limit 0 0 xs ys
@@ -77,7 +76,7 @@ grows_round cs to now after least xs ys e = record {
       carry = purges_carry to cs (entry.Reduced to now after least ∷ []) refl;
       granted_is = purges_count is_grant (λ c. refl) cs (entry.Reduced to now after least ∷ []);
       rounds_are = (let one : count_by (is_round to) (map purge_of cs ++ entry.Reduced to now after least ∷ []) ≡ 1 =
-          purges_count (is_round to) (λ c. refl) cs (entry.Reduced to now after least ∷ []) ∙ ap (λ (b : Bool). cond {A = ℕ} b 1 0 + 0) (eq-eqb to to refl) in omega arith);
+          purges_count (is_round to) (λ c. refl) cs (entry.Reduced to now after least ∷ []) ∙ ap (λ (b : Bool). 0 + cond {A = ℕ} b 1 0) (eq-eqb to to refl) in omega arith);
     }
 
 -- how many Grants a grown book has

@@ -1,5 +1,5 @@
 -- Each call of a state grows its book.
-use Rattle.std.proofs.Common.{◌≡◌, ◌⊎◌, ⊎_elim, ℕ, ◌+◌, Bool, true, false, ◌&&◌, List, [], ◌∷◌, ◌++◌, Option, Some, None, refl, sym, ap, ◌∙◌, subst, if◌then◌else◌, nat_lt, length, map}
+use Rattle.std.proofs.Common.{◌≡◌, ◌⊎◌, ⊎_elim, ℕ, ◌+◌, Bool, true, false, ◌&&◌, List, [], ◌∷◌, ◌++◌, Option, Some, None, refl, sym, ap, ◌∙◌, subst, arith, if◌then◌else◌, nat_lt, length, map}
 use Rattle.std.specs.Prelude.{MatchBool}
 use Rattle.std.proofs.lemmas.List.{append-nil}
 use Rattle.machine.specs.Reduction.{tries, purged_by}
@@ -51,7 +51,7 @@ grants_grows client pages now side old new g =
     (
       grows_more old.limit 0 0 1 0 old.entries g.between.entries new.entries (kept.0 old.limit) last,
       g.enters.limit ∙ kept.1,
-      g.enters.number ∙ ap (λ (n : ℕ). n + 1) number,
+      (let e = g.enters.number in omega arith),
     )
 
 runs_short : (pages : ℕ) (old new : Managed) → RunsShort pages old new → Kept old new
