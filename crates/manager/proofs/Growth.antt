@@ -11,7 +11,7 @@ use Rattle.discard_book.specs.declared.entry.Entry.TheVariants as entry
 use Rattle.discard_book.specs.Live.{grants, is_grant}
 use Rattle.manager.specs.Grows.{carries, is_round, all_carry, Grows}
 
-count_by-append : (test : Entry → Bool) (xs ys : List Entry) → count_by test (xs ++ ys) ≡ count_by test xs + count_by test ys
+pub count_by-append : (test : Entry → Bool) (xs ys : List Entry) → count_by test (xs ++ ys) ≡ count_by test xs + count_by test ys
 count_by-append test xs ys = sum_by-append (λ (e : Entry). cond (test e) 1 0) xs ys
 
 all_carry-append : (limit : ℕ) (xs ys : List Entry) → all_carry limit xs ≡ true → all_carry limit ys ≡ true → all_carry limit (xs ++ ys) ≡ true

@@ -2,3 +2,4 @@ pub mod Counting
 pub mod Growth
 pub mod StateGrows
 pub mod Keeping
+pub mod Ending

@@ -1,6 +1,6 @@
 -- Each call of a state grows its book.
-use Rattle.std.proofs.Common.{◌≡◌, ◌⊎◌, ⊎_elim, ℕ, ◌+◌, Bool, true, false, ◌&&◌, List, [], ◌∷◌, ◌++◌, Option, Some, None, refl, sym, ap, ◌∙◌, subst, arith, if◌then◌else◌, nat_lt, length, map}
-use Rattle.std.specs.Prelude.{MatchBool}
+use Rattle.std.proofs.Common.{◌≡◌, ◌⊎◌, ⊎_elim, ℕ, ◌+◌, Bool, true, false, ◌&&◌, List, [], ◌∷◌, ◌++◌, Option, Some, None, Result, Ok, Err, refl, sym, ap, ◌∙◌, subst, arith, if◌then◌else◌, nat_lt, length, map}
+use Rattle.std.specs.Prelude.{MatchBool, IfOk, OnErr}
 use Rattle.std.proofs.lemmas.List.{append-nil}
 use Rattle.machine.specs.Reduction.{tries, purged_by}
 use Rattle.lru_reduce.specs.Wards.{candidates_of, total_pages}
@@ -77,3 +77,8 @@ pub counted_grows : (limit : ℕ) (book : List Entry) (pairs : List (ℕ × ℕ)
 counted_grows limit book [] = grows_none limit book
 counted_grows limit book (p ∷ ps) = grows_more limit 0 0 0 0 book (count_one book p) (counted (count_one book p) ps)
     (one_counted limit (is_with p.0 p.1 book && has_number (live book) p.1) p.1 book) (counted_grows limit (count_one book p) ps)
+
+-- a reduction that may be out of memory
+pub reduced_kept : {E : Type 0} (to now : ℕ) (result : Result Reduced E) (old new : Managed) → IfOk result (λ told. Reduces to now told old new) → OnErr result (new ≡ old) → Kept old new
+reduced_kept to now (Ok told) old new ok err = reduces_kept to now told old new ok
+reduced_kept to now (Err e) old new ok err = same_kept old new (ap (λ (m : Managed). m.entries) err) (ap (λ (m : Managed). m.limit) err)

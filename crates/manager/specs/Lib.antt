@@ -2,3 +2,4 @@ pub mod Counted
 pub mod Tokens
 pub mod Grows
 pub mod Ends
+pub mod Standing
