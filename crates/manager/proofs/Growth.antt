@@ -61,23 +61,23 @@ purges_count test none (c ∷ cs) tail = let rest : List Entry = map purge_of cs
 -- whatever its limit
 pub grows_reduced : (limit : ℕ) (cs : List Candidate) (to now after : ℕ) (least : _) (xs ys : List Entry) → ys ≡ (xs ++ map purge_of cs) ++ entry.Reduced to now after least ∷ [] → Grows limit 0 0 xs ys
 grows_reduced limit cs to now after least xs ys e = record {
-      more = map purge_of cs ++ entry.Reduced to now after least ∷ [];
-      follows = e ∙ append_assoc xs (map purge_of cs) (entry.Reduced to now after least ∷ []);
-      carry = purges_carry limit cs (entry.Reduced to now after least ∷ []) refl;
-      granted_is = purges_count is_grant (λ c. refl) cs (entry.Reduced to now after least ∷ []);
-      rounds_are = omega arith;
-    }
+  more = map purge_of cs ++ entry.Reduced to now after least ∷ [];
+  follows = e ∙ append_assoc xs (map purge_of cs) (entry.Reduced to now after least ∷ []);
+  carry = purges_carry limit cs (entry.Reduced to now after least ∷ []) refl;
+  granted_is = purges_count is_grant (λ c. refl) cs (entry.Reduced to now after least ∷ []);
+  rounds_are = omega arith;
+}
 
 -- where its limit is the manager's
 pub grows_round : (cs : List Candidate) (to now after : ℕ) (least : _) (xs ys : List Entry) → ys ≡ (xs ++ map purge_of cs) ++ entry.Reduced to now after least ∷ [] → Grows to 0 1 xs ys
 grows_round cs to now after least xs ys e = record {
-      more = map purge_of cs ++ entry.Reduced to now after least ∷ [];
-      follows = e ∙ append_assoc xs (map purge_of cs) (entry.Reduced to now after least ∷ []);
-      carry = purges_carry to cs (entry.Reduced to now after least ∷ []) refl;
-      granted_is = purges_count is_grant (λ c. refl) cs (entry.Reduced to now after least ∷ []);
-      rounds_are = (let one : count_by (is_round to) (map purge_of cs ++ entry.Reduced to now after least ∷ []) ≡ 1 =
-          purges_count (is_round to) (λ c. refl) cs (entry.Reduced to now after least ∷ []) ∙ ap (λ (b : Bool). 0 + cond {A = ℕ} b 1 0) (eq-eqb to to refl) in omega arith);
-    }
+  more = map purge_of cs ++ entry.Reduced to now after least ∷ [];
+  follows = e ∙ append_assoc xs (map purge_of cs) (entry.Reduced to now after least ∷ []);
+  carry = purges_carry to cs (entry.Reduced to now after least ∷ []) refl;
+  granted_is = purges_count is_grant (λ c. refl) cs (entry.Reduced to now after least ∷ []);
+  rounds_are = (let one : count_by (is_round to) (map purge_of cs ++ entry.Reduced to now after least ∷ []) ≡ 1 =
+      purges_count (is_round to) (λ c. refl) cs (entry.Reduced to now after least ∷ []) ∙ ap (λ (b : Bool). 0 + cond {A = ℕ} b 1 0) (eq-eqb to to refl) in omega arith);
+}
 
 -- how many Grants a grown book has
 pub grows_grants : (limit a b : ℕ) (xs ys : List Entry) → Grows limit a b xs ys → grants ys ≡ grants xs + a

@@ -14,7 +14,6 @@ use Rattle.manager.specs.Grows.{is_round}
 use Rattle.manager.proofs.Growth.{grows_none, grows_more, grows_grants, count_by-append}
 use Rattle.manager.proofs.StateGrows.{counted_grows, Kept}
 
-
 told_more : (a b g r : ℕ) (f : Tokens → Tokens) → ((t : Tokens) → (f t).grants ≡ t.grants + a) → ((t : Tokens) → (f t).rounds ≡ t.rounds + b) → (totals : Option Tokens)
     → IfSome totals (λ t. (t.grants ≡ g) × (t.rounds ≡ r)) → IfSome (option_map f totals) (λ t. (t.grants ≡ g + a) × (t.rounds ≡ r + b))
 told_more a b g r f fg fr None k = tt
@@ -30,16 +29,16 @@ kept_on : (a b : ℕ) (f : Tokens → Tokens) → ((t : Tokens) → (f t).grants
     → IsKept limit handed counts totals old → new.limit ≡ old.limit → Grows old.limit a b old.entries new.entries → totals' ≡ option_map f totals
     → IsKept limit handed counts totals' new
 kept_on a b f fg fr limit handed counts totals totals' old new was l grown e = record {
-      same = l ∙ was.same;
-      account = record {
-        granted = was.account.granted + a;
-        rounds = was.account.rounds + b;
-        grows = grows_more limit was.account.granted was.account.rounds a b handed old.entries new.entries was.account.grows (subst (λ (n : ℕ). Grows n a b old.entries new.entries) was.same grown);
-        told = subst (λ (o : Option Tokens). IfSome o (λ t. (t.grants ≡ was.account.granted + a) × (t.rounds ≡ was.account.rounds + b))) (sym e)
-            (told_more a b was.account.granted was.account.rounds f fg fr totals was.account.told);
-      };
-      counted = ap is_some e ∙ some_map f totals ∙ was.counted;
-    }
+  same = l ∙ was.same;
+  account = record {
+    granted = was.account.granted + a;
+    rounds = was.account.rounds + b;
+    grows = grows_more limit was.account.granted was.account.rounds a b handed old.entries new.entries was.account.grows (subst (λ (n : ℕ). Grows n a b old.entries new.entries) was.same grown);
+    told = subst (λ (o : Option Tokens). IfSome o (λ t. (t.grants ≡ was.account.granted + a) × (t.rounds ≡ was.account.rounds + b))) (sym e)
+        (told_more a b was.account.granted was.account.rounds f fg fr totals was.account.told);
+  };
+  counted = ap is_some e ∙ some_map f totals ∙ was.counted;
+}
 
 same_map : (totals : Option Tokens) → totals ≡ option_map (λ (t : Tokens). t) totals
 same_map None = refl
@@ -66,12 +65,9 @@ kept_round limit handed counts totals totals' old new was l grown e =
 pub counted_grew : (limit : ℕ) (before after : List Entry) (pairs : List (ℕ × ℕ)) → after ≡ counted before pairs → Grows limit 0 0 before after
 counted_grew limit before after pairs e = subst (λ (es : List Entry). Grows limit 0 0 before es) (sym e) (counted_grows limit before pairs)
 
--- what holds of the manager's queue
-pub of_queue : {R T : Type 0} (P : R → T → Type 0) (queue : Option R) (r : R) (t : T) → queue ≡ Some r → IfSome queue (λ q. P q t) → P r t
-of_queue P queue r t e h = subst (λ (o : Option _). IfSome o (λ q. P q t)) e h
-
-pub to_queue : {R T : Type 0} (P : R → T → Type 0) (queue : Option R) (r : R) (t : T) → queue ≡ Some r → P r t → IfSome queue (λ q. P q t)
-to_queue P queue r t e h = subst (λ (o : Option _). IfSome o (λ q. P q t)) (sym e) h
+-- what holds of the queue by its name
+pub to_queue : {N T : Type 0} (P : N → T → Type 0) (queue name : N) (t : T) → queue ≡ name → P name t → P queue t
+to_queue P queue name t e h = subst (λ (n : _). P n t) (sym e) h
 
 -- the totals of grants are at most the Grants of the book
 few_told : (totals : Option Tokens) (g r n : ℕ) → g ≤ n → IfSome totals (λ t. (t.grants ≡ g) × (t.rounds ≡ r)) → IfSome totals (λ t. t.grants ≤ n)
@@ -116,16 +112,16 @@ pub whole_told : (limit : ℕ) (handed : List Entry) (counts : Bool) (totals : O
 whole_told limit handed counts totals t state k e =
     let told : (t.grants ≡ k.account.granted) × (t.rounds ≡ k.account.rounds) = subst (λ (o : Option Tokens). IfSome o (λ u. (u.grants ≡ k.account.granted) × (u.rounds ≡ k.account.rounds))) e k.account.told in
     subst (λ (n : ℕ). Grows limit n t.rounds handed state.entries) (sym told.0)
-        (subst (λ (n : ℕ). Grows limit k.account.granted n handed state.entries) (sym told.1) k.account.grows)
+    (subst (λ (n : ℕ). Grows limit k.account.granted n handed state.entries) (sym told.1) k.account.grows)
 
 -- what was fixed at the making
 pub kept_new : (limit : ℕ) (handed : List Entry) (counts : Bool) (totals : Option Tokens) (state : Managed) → state.limit ≡ limit → state.entries ≡ handed → is_some totals ≡ counts
     → IfSome totals (λ t. (t.grants ≡ 0) × (t.rounds ≡ 0)) → IsKept limit handed counts totals state
 kept_new limit handed counts totals state l e c f = record {
-      same = l;
-      account = record { granted = 0; rounds = 0; grows = subst (λ (es : List Entry). Grows limit 0 0 handed es) (sym e) (grows_none limit handed); told = f };
-      counted = c;
-    }
+  same = l;
+  account = record { granted = 0; rounds = 0; grows = subst (λ (es : List Entry). Grows limit 0 0 handed es) (sym e) (grows_none limit handed); told = f };
+  counted = c;
+}
 
 -- a call of the state that grants nothing
 pub kept_by : (limit : ℕ) (handed : List Entry) (counts : Bool) (totals : Option Tokens) (old new : Managed) → IsKept limit handed counts totals old → Kept old new → IsKept limit handed counts totals new

@@ -46,9 +46,8 @@ pub grants_grows : (client pages now : ℕ) (side : Owned) (old new : Managed) �
 grants_grows client pages now side old new g =
     let kept = room_kept pages now old g.between g.room in
     let last : Grows old.limit 1 0 g.between.entries new.entries = subst (λ (es : List Entry). Grows old.limit 1 0 g.between.entries es) (sym g.enters.entries)
-        (subst (λ (l : ℕ). Grows old.limit 1 0 g.between.entries (g.between.entries ++ entry.Grant side.id client pages l ∷ [])) (sym kept.1) (grows_granted old.limit side.id client pages g.between.entries)) in
-    let number : grants g.between.entries ≡ grants old.entries + 0 = grows_grants old.limit 0 0 old.entries g.between.entries (kept.0 old.limit) in
-    (
+    (subst (λ (l : ℕ). Grows old.limit 1 0 g.between.entries (g.between.entries ++ entry.Grant side.id client pages l ∷ [])) (sym kept.1) (grows_granted old.limit side.id client pages g.between.entries)) in
+    let number : grants g.between.entries ≡ grants old.entries + 0 = grows_grants old.limit 0 0 old.entries g.between.entries (kept.0 old.limit) in (
       grows_more old.limit 0 0 1 0 old.entries g.between.entries new.entries (kept.0 old.limit) last,
       g.enters.limit ∙ kept.1,
       (let e = g.enters.number in omega arith),
@@ -63,9 +62,9 @@ runs_short pages old new h = ⊎_elim
 pub runs_out_kept : (pages now : ℕ) (old new : Managed) → RunsOut pages now old new → Kept old new
 runs_out_kept pages now old new r = then_kept old r.between new
     (⊎_elim
-      (λ (e : r.between ≡ old). same_kept old r.between (ap (λ (m : Managed). m.entries) e) (ap (λ (m : Managed). m.limit) e))
-      (λ h. room_kept pages now old r.between h)
-      r.room)
+    (λ (e : r.between ≡ old). same_kept old r.between (ap (λ (m : Managed). m.entries) e) (ap (λ (m : Managed). m.limit) e))
+    (λ h. room_kept pages now old r.between h)
+    r.room)
     (runs_short pages r.between new r.short)
 
 one_counted : (limit : ℕ) (b : Bool) (id : ℕ) (book : List Entry) → Grows limit 0 0 book (if b then book ++ entry.Back id ∷ [] else book)

@@ -27,14 +27,13 @@ use units::NoMemory;
 /// each Grant since carries the limit, the totals are what the book gained, and the taker is of the
 /// manager's queue.
 #[derive(Drop)]
-pub(crate) struct Behind<R: Returns, F: Fixed<R>, G: Ledger, E: Ledger> {
+pub(crate) struct Behind<R: Returns, F: Fixed, G: Ledger, E: Ledger> {
     desk: Desk<R>,
     totals: Option<Totals<G, E>>,
     fixed: PhantomData<F>,
 }
 
-impl<R: Returns, F: Fixed<R>, G: Ledger, E: Ledger> Model for Behind<R, F, G, E> {
-    ghost use Rattle.std.specs.Prelude.{IfSome};
+impl<R: Returns, F: Fixed, G: Ledger, E: Ledger> Model for Behind<R, F, G, E> {
     ghost use Rattle.manager_state.specs.Managed.{Managed};
     ghost use Rattle.manager.specs.Grows.{IsKept};
 
@@ -43,7 +42,7 @@ impl<R: Returns, F: Fixed<R>, G: Ledger, E: Ledger> Model for Behind<R, F, G, E>
     ghost view = { λ b. b.desk.state };
 
     ghost invariant = { λ b. IsKept F.limit F.handed F.counts b.totals b.desk.state
-        × IfSome F.queue (λ queue. R.is_taker queue b.desk.taker) };
+        × R.is_taker F.queue b.desk.taker };
 }
 
 /// How many entries a state's book has.
@@ -54,12 +53,12 @@ fn entry_count(state: &State) -> u64
     state.book().entries().len() as u64
 }
 
-impl<R: Returns, F: Fixed<R>, G: Ledger, E: Ledger> Behind<R, F, G, E> {
+impl<R: Returns, F: Fixed, G: Ledger, E: Ledger> Behind<R, F, G, E> {
     /// A desk, with or without totals.
     pub(crate) fn new(desk: Desk<R>, totals: Option<Totals<G, E>>) -> Behind<R, F, G, E>
         requires limit { desk.state.limit ≡ F.limit }
         requires entries { desk.state.entries ≡ F.handed }
-        requires taker { IfSome F.queue (λ queue. R.is_taker queue desk.taker) }
+        requires taker { R.is_taker F.queue desk.taker }
         requires counts { is_some totals ≡ F.counts }
         requires fresh { IfSome totals (λ t. (t.grants ≡ 0) × (t.rounds ≡ 0)) }
     {
@@ -72,7 +71,7 @@ impl<R: Returns, F: Fixed<R>, G: Ledger, E: Ledger> Behind<R, F, G, E> {
 
     /// Counts what stands in the queue.
     pub(crate) fn settle<H: Wait>(&mut self, rt: &H, returns: &R) -> u64
-        requires { F.queue ≡ Some returns.now }
+        requires { F.queue ≡ R.name returns.now }
     {
         self.desk.settle(rt, returns)
     }
@@ -85,16 +84,16 @@ impl<R: Returns, F: Fixed<R>, G: Ledger, E: Ledger> Behind<R, F, G, E> {
         pass: R::Pass,
         note: Note,
     ) -> Back
-        requires queue { F.queue ≡ Some returns.now }
-        requires pass { IfSome F.queue (λ queue. R.is_pass queue pass) }
+        requires queue { F.queue ≡ R.name returns.now }
+        requires pass { R.is_pass F.queue pass }
     {
         self.desk.settle_behind(rt, returns, pass, note)
     }
 
     /// Counts all that stands in the queue.
     pub(crate) fn drain<H: Wait>(&mut self, rt: &H, returns: &R, pass: R::Pass) -> u64
-        requires queue { F.queue ≡ Some returns.now }
-        requires pass { IfSome F.queue (λ queue. R.is_pass queue pass) }
+        requires queue { F.queue ≡ R.name returns.now }
+        requires pass { R.is_pass F.queue pass }
     {
         self.desk.drain(rt, returns, pass)
     }

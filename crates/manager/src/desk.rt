@@ -43,8 +43,8 @@ impl<R: Returns> Desk<R> {
 
     /// Takes one note and counts it, and tells whether there was one.
     fn turn<H: Wait>(&mut self, rt: &H, returns: &R) -> bool
-        requires { R.is_taker returns.now self.old.taker }
-        ensures queue { R.is_taker returns.now self.new.taker }
+        requires { R.is_taker (R.name returns.now) self.old.taker }
+        ensures queue { R.is_taker (R.name returns.now) self.new.taker }
         ensures took { result ≡ true → ((note : Note)
             × (R.taken self.new.taker ≡ R.taken self.old.taker ++ note ∷ [])
             × (self.new.state.entries ≡ count_one self.old.state.entries (pair_of note))) }
@@ -62,8 +62,8 @@ impl<R: Returns> Desk<R> {
             → AllTaken (R.taken self.new.taker) (R.knows self.new.taker) }
     {
         match returns.take(rt, &mut self.taker) {
-            Some(note) => {
-                count_back(&mut self.state, note);
+            Some(next) => {
+                count_back(&mut self.state, next);
                 true
             }
             None => false,
@@ -73,8 +73,8 @@ impl<R: Returns> Desk<R> {
     /// Takes and counts as many notes as the queue holds, or fewer where there was none at a step
     /// of this call. It answers how many it took.
     pub fn settle<H: Wait>(&mut self, rt: &H, returns: &R) -> u64
-        requires { R.is_taker returns.now self.old.taker }
-        ensures queue { R.is_taker returns.now self.new.taker }
+        requires { R.is_taker (R.name returns.now) self.old.taker }
+        ensures queue { R.is_taker (R.name returns.now) self.new.taker }
         ensures counted { CountsNotes
             self.old.state.entries (R.taken self.old.taker)
             self.new.state.entries (R.taken self.new.taker) (λ n. result ≡ n) }
@@ -100,21 +100,15 @@ impl<R: Returns> Desk<R> {
 
     /// Takes a pass in, settles, and counts a note after what it took, so that the note overtakes
     /// none that its pass had seen given. It answers what the note's return comes to.
-    pub fn settle_behind<H: Wait>(
-        &mut self,
-        rt: &H,
-        returns: &R,
-        pass: R::Pass,
-        note: Note,
-    ) -> Back
-        requires taker { R.is_taker returns.now self.old.taker }
-        requires pass { R.is_pass returns.now pass }
-        ensures queue { R.is_taker returns.now self.new.taker }
+    pub fn settle_behind<H: Wait>(&mut self, rt: &H, returns: &R, pass: R::Pass, note: Note) -> Back
+        requires taker { R.is_taker (R.name returns.now) self.old.taker }
+        requires pass { R.is_pass (R.name returns.now) pass }
+        ensures queue { R.is_taker (R.name returns.now) self.new.taker }
         ensures counted { CountsBehind result note
             self.old.state.entries (R.taken self.old.taker)
             self.new.state.entries (R.taken self.new.taker)
             (λ n. (n ≤ R.most returns.now) × (n < R.most returns.now
-                → InOrder (R.taken self.new.taker) [] (R.knows self.new.taker))) }
+            → InOrder (R.taken self.new.taker) [] (R.knows self.new.taker))) }
         ensures limit { self.new.state.limit ≡ self.old.state.limit }
         ensures all { Starts (R.taken self.new.taker) (notes (R.seen pass)) }
     {
@@ -126,9 +120,9 @@ impl<R: Returns> Desk<R> {
     /// Takes a pass in, and takes and counts notes until there is none. It answers how many it
     /// took, or the last value of u64 where they were more.
     pub fn drain<H: Wait>(&mut self, rt: &H, returns: &R, pass: R::Pass) -> u64
-        requires taker { R.is_taker returns.now self.old.taker }
-        requires pass { R.is_pass returns.now pass }
-        ensures queue { R.is_taker returns.now self.new.taker }
+        requires taker { R.is_taker (R.name returns.now) self.old.taker }
+        requires pass { R.is_pass (R.name returns.now) pass }
+        ensures queue { R.is_taker (R.name returns.now) self.new.taker }
         ensures counted { CountsNotes
             self.old.state.entries (R.taken self.old.taker)
             self.new.state.entries (R.taken self.new.taker) (λ n. result ≡ min n (2 ^ 64 - 1)) }

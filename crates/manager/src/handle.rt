@@ -30,7 +30,7 @@ use units::NoMemory;
 /// into the queue; only where this is full does the handle take the lock, and then counts first
 /// what stood before it.
 #[derive(Drop)]
-pub struct Handle<'m, R: Returns, F: Fixed<R>, G: Ledger, E: Ledger> {
+pub struct Handle<'m, R: Returns, F: Fixed, G: Ledger, E: Ledger> {
     manager: &'m Manager<R, F, G, E>,
     pass: R::Pass,
     /// None where the manager has no ledgers.
@@ -42,7 +42,7 @@ pub struct Handle<'m, R: Returns, F: Fixed<R>, G: Ledger, E: Ledger> {
     greatest: u64,
 }
 
-impl<'m, R: Returns, F: Fixed<R>, G: Ledger, E: Ledger> Model for Handle<'m, R, F, G, E> {
+impl<'m, R: Returns, F: Fixed, G: Ledger, E: Ledger> Model for Handle<'m, R, F, G, E> {
     ghost use Rattle.std.specs.Prelude.{◌≡◌, ◌<◌, IfSome, is_some};
     ghost use Rattle.manager.specs.Standing.{Held, Tracks};
 
@@ -56,13 +56,13 @@ impl<'m, R: Returns, F: Fixed<R>, G: Ledger, E: Ledger> Model for Handle<'m, R, 
       greatest = h.greatest;
     } };
 
-    ghost invariant = { λ h. IfSome F.queue (λ queue. R.is_pass queue h.pass)
+    ghost invariant = { λ h. R.is_pass F.queue h.pass
         × (is_some h.shares ≡ F.counts)
         × IfSome h.shares (λ s. 0 < s.parts)
         × IfSome h.shares (Tracks h.base h.grants) };
 }
 
-impl<F: Fixed<PlainReturns>, G: Ledger, E: Ledger> Manager<PlainReturns, F, G, E> {
+impl<F: Fixed, G: Ledger, E: Ledger> Manager<PlainReturns, F, G, E> {
     /// A handle of a manager that `new` made.
     pub fn handle(&self) -> Handle<'_, PlainReturns, F, G, E>
         requires { F.counts ≡ false }
@@ -81,11 +81,11 @@ impl<F: Fixed<PlainReturns>, G: Ledger, E: Ledger> Manager<PlainReturns, F, G, E
     }
 }
 
-impl<R: Returns, F: Fixed<R>, G: Ledger, E: Ledger> Manager<R, F, G, E> {
+impl<R: Returns, F: Fixed, G: Ledger, E: Ledger> Manager<R, F, G, E> {
     /// A handle that gives through this pass and counts in these shares.
     pub fn handle_with(&self, pass: R::Pass, shares: Shares<G, E>) -> Handle<'_, R, F, G, E>
         requires counts { F.counts ≡ true }
-        requires pass { IfSome F.queue (λ queue. R.is_pass queue pass) }
+        requires pass { R.is_pass F.queue pass }
         requires part { 0 < shares.parts }
         ensures { result ≡ record {
           shares = Some shares;
@@ -107,7 +107,7 @@ impl<R: Returns, F: Fixed<R>, G: Ledger, E: Ledger> Manager<R, F, G, E> {
     }
 }
 
-impl<'m, R: Returns, F: Fixed<R>, G: Ledger, E: Ledger> Handle<'m, R, F, G, E> {
+impl<'m, R: Returns, F: Fixed, G: Ledger, E: Ledger> Handle<'m, R, F, G, E> {
     /// One turn under the lock: None where the book has fewer Grants than this handle's greatest
     /// number.
     fn turn<H: Wait>(
@@ -184,19 +184,17 @@ impl<'m, R: Returns, F: Fixed<R>, G: Ledger, E: Ledger> Handle<'m, R, F, G, E> {
     /// The pass of a handle and its shares, where the manager has ledgers.
     pub fn into_parts(self) -> (R::Pass, Shares<G, E>)
         requires { F.counts ≡ true }
-        ensures pass { IfSome F.queue (λ queue. R.is_pass queue result.0) }
+        ensures pass { R.is_pass F.queue result.0 }
         ensures shares { self.entry.shares ≡ Some result.1 }
         ensures counted { Tracks self.entry.base self.entry.grants result.1 }
     {
         let Handle { pass, shares, .. } = self;
-        let Some(shares) = shares else {
-            unreachable!()
-        };
+        let Some(shares) = shares else { unreachable!() };
         (pass, shares)
     }
 }
 
-impl<'m, R: Returns, F: Fixed<R>, G: Ledger, E: Ledger> Granter for Handle<'m, R, F, G, E> {
+impl<'m, R: Returns, F: Fixed, G: Ledger, E: Ledger> Granter for Handle<'m, R, F, G, E> {
     ghost use Rattle.std.specs.Prelude.{Option};
     ghost use Rattle.manager.specs.Tokens.{Tokens, standing_of};
 

@@ -4,6 +4,7 @@ ghost use Rattle.units.specs.declared.TheConstants.{MOST_PAGES};
 ghost use Rattle.segment.specs.Owned.{IsGranted};
 ghost use Rattle.discard_book.specs.Legal.{IsLegal};
 ghost use Rattle.manager_state.specs.Calls.{limit_under};
+ghost use Rattle.return_queue.specs.Name.{no_queue};
 ghost use Rattle.manager.specs.Tokens.{with_grant, with_round};
 ghost use Rattle.manager.specs.Grows.{Grows};
 ghost use Rattle.manager.specs.Ends.{HasEnded};
@@ -27,27 +28,27 @@ use units::NoMemory;
 ///
 /// `F` names what was fixed when the manager was made, `G` and `E` its two ledgers.
 #[derive(Drop)]
-pub struct Manager<R: Returns, F: Fixed<R>, G: Ledger, E: Ledger> {
+pub struct Manager<R: Returns, F: Fixed, G: Ledger, E: Ledger> {
     returns: R,
     behind: Mutex<Behind<R, F, G, E>>,
 }
 
-impl<R: Returns, F: Fixed<R>, G: Ledger, E: Ledger> Model for Manager<R, F, G, E> {
-    ghost use Rattle.std.specs.Prelude.{◌≡◌, Some};
+impl<R: Returns, F: Fixed, G: Ledger, E: Ledger> Model for Manager<R, F, G, E> {
+    ghost use Rattle.std.specs.Prelude.{◌≡◌};
 
     ghost Value = { R };
 
     ghost view = { λ m. m.returns };
 
-    ghost invariant = { λ m. F.queue ≡ Some m.returns };
+    ghost invariant = { λ m. F.queue ≡ R.name m.returns };
 }
 
-impl<F: Fixed<PlainReturns>, G: Ledger, E: Ledger> Manager<PlainReturns, F, G, E> {
+impl<F: Fixed, G: Ledger, E: Ledger> Manager<PlainReturns, F, G, E> {
     /// A manager of this state, whose returns wait for the lock and whose grants enter no ledger.
     pub fn new(state: State) -> Manager<PlainReturns, F, G, E>
         requires limit { state.limit ≡ F.limit }
         requires entries { state.entries ≡ F.handed }
-        requires queue { F.queue ≡ Some (record {}) }
+        requires queue { F.queue ≡ no_queue }
         requires counts { F.counts ≡ false }
     {
         let (returns, _pass, taker) = PlainReturns::new();
@@ -59,7 +60,7 @@ impl<F: Fixed<PlainReturns>, G: Ledger, E: Ledger> Manager<PlainReturns, F, G, E
     }
 }
 
-impl<R: Returns, F: Fixed<R>, G: Ledger, E: Ledger> Manager<R, F, G, E> {
+impl<R: Returns, F: Fixed, G: Ledger, E: Ledger> Manager<R, F, G, E> {
     /// A manager of this state, to which returns come through a queue, and all shares of its two
     /// ledgers, which the blanks become.
     pub fn with_returns(
@@ -71,9 +72,9 @@ impl<R: Returns, F: Fixed<R>, G: Ledger, E: Ledger> Manager<R, F, G, E> {
     ) -> (Manager<R, F, G, E>, Shares<G, E>)
         requires limit { state.limit ≡ F.limit }
         requires entries { state.entries ≡ F.handed }
-        requires queue { F.queue ≡ Some returns }
+        requires queue { F.queue ≡ R.name returns }
         requires counts { F.counts ≡ true }
-        requires taker { R.is_taker returns taker }
+        requires taker { R.is_taker (R.name returns) taker }
         requires names { (grants.name ≡ G.name) × (rounds.name ≡ E.name) }
         requires parts { (grants.parts ≡ G.parts) × (rounds.parts ≡ E.parts) }
         requires all { (G.parts ≡ PARTS) × (E.parts ≡ PARTS) }
@@ -90,7 +91,7 @@ impl<R: Returns, F: Fixed<R>, G: Ledger, E: Ledger> Manager<R, F, G, E> {
 
     /// Its queue of returns.
     pub fn returns(&self) -> &R
-        ensures { F.queue ≡ Some result.now }
+        ensures { F.queue ≡ R.name result.now }
     {
         &self.returns
     }
@@ -161,7 +162,7 @@ impl<R: Returns, F: Fixed<R>, G: Ledger, E: Ledger> Manager<R, F, G, E> {
 
     /// Counts what a pass had seen given, and then a note.
     pub(crate) fn settle_behind<H: Wait>(&self, rt: &H, pass: R::Pass, note: Note) -> Back
-        requires { IfSome F.queue (λ queue. R.is_pass queue pass) }
+        requires { R.is_pass F.queue pass }
     {
         self.behind
             .lock(rt)
@@ -194,14 +195,13 @@ impl<R: Returns, F: Fixed<R>, G: Ledger, E: Ledger> Manager<R, F, G, E> {
     /// Takes a pass in, and counts all notes that stand in the queue. It answers how many they were,
     /// or the last value of u64 where they were more.
     pub fn drain<H: Wait>(&self, rt: &H, pass: R::Pass) -> u64
-        requires { IfSome F.queue (λ queue. R.is_pass queue pass) }
+        requires { R.is_pass F.queue pass }
     {
         self.behind.lock(rt).drain(rt, &self.returns, pass)
     }
-
 }
 
-impl<R: Returns + Drop, F: Fixed<R>, G: Ledger, E: Ledger> Manager<R, F, G, E> {
+impl<R: Returns + Drop, F: Fixed, G: Ledger, E: Ledger> Manager<R, F, G, E> {
     /// The state, once no handle is left. Its book is legal and begins with the entries handed in,
     /// and each Grant since carries the limit.
     pub fn finish(self) -> State

@@ -1,11 +1,12 @@
-ghost use Rattle.std.specs.Prelude.{◌≡◌, ◌≤◌, true, false, Some};
+ghost use Rattle.std.specs.Prelude.{◌≡◌, ◌≤◌, ◌<◌, true, false, Some, IfSome};
+ghost use Rattle.return_queue.specs.Name.{no_queue};
 ghost use Rattle.manager.specs.declared.shares.TheConstants.{PARTS};
 
 use crate::{Fixed, Handle, Level, Manager, PARTS, Shares, State};
-use lru_reduce::Reduced;
-use return_queue::{PlainReturns, ReturnPass, ReturnTaker, Returns, RuledReturns};
-use segment::{GiveUp, Granter, OwnerSide};
 use block_pool::Block;
+use lru_reduce::Reduced;
+use return_queue::{PlainReturns, Returns, RuledReturns};
+use segment::{GiveUp, Granter, OwnerSide};
 use std::alloc::Global;
 use std::marker::Brand;
 use std::process::Abort;
@@ -36,38 +37,56 @@ fn has_text(state: &State, alloc: Global, want: &[u8]) -> Result<bool, Fail> {
 }
 
 /// Pressure purges an idle segment, and an enforcement finds nothing left.
-fn yields<F: Fixed<PlainReturns>, G: Ledger, E: Ledger, H: Threads + Wait + Sync>(
+fn pressed<F: Fixed, G: Ledger, E: Ledger, H: Threads + Wait + Sync>(
     rt: &H,
     alloc: Global,
-    state: State,
+    manager: &Manager<PlainReturns, F, G, E>,
 ) -> Result<bool, Fail>
-    requires limit { state.limit ≡ F.limit }
-    requires entries { state.entries ≡ F.handed }
-    requires queue { F.queue ≡ Some (record {}) }
-    requires counts { F.counts ≡ false }
+    requires { F.counts ≡ false }
 {
-    let manager = Manager::<PlainReturns, F, G, E>::new(state);
     let mut handle = manager.handle();
     let mut side = handle.grant(rt, alloc, 1, 4, 1)?;
     side.unlock(2);
     let pressed = manager.pressure(rt, alloc, Level::Critical, 3)? == told(0, None, 1);
     let enforced = manager.enforce(rt, alloc, 4)? == told(0, None, 0);
     handle.give_back(rt, 1, 1, None);
+    Ok(pressed && enforced)
+}
+
+/// A manager with no queue and no ledgers, from its state to its state.
+fn yields<F: Fixed, G: Ledger, E: Ledger, H: Threads + Wait + Sync>(
+    rt: &H,
+    alloc: Global,
+    state: State,
+) -> Result<bool, Fail>
+    requires limit { state.limit ≡ F.limit }
+    requires entries { state.entries ≡ F.handed }
+    requires queue { F.queue ≡ no_queue }
+    requires counts { F.counts ≡ false }
+{
+    let manager = Manager::<PlainReturns, F, G, E>::new(state);
+    let right = pressed(rt, alloc, &manager)?;
     let state = manager.finish();
     let want = b"grant 1 1 4 8\npurge 1 2\nreduced 0 3 0 -\nreduced 8 4 0 -\n";
-    Ok(pressed && enforced && has_text(&state, alloc, want)?)
+    Ok(right && has_text(&state, alloc, want)?)
 }
 
 /// Three segments come back to a queue of one note, and are counted in order.
-fn settles<F: Fixed<RuledReturns>, G: Ledger, E: Ledger, H: Threads + Wait + Sync>(
+fn settles<R, F, G, E, H>(
     rt: &H,
     alloc: Global,
-    manager: Manager<RuledReturns, F, G, E>,
-    pass: ReturnPass,
+    manager: Manager<R, F, G, E>,
+    pass: R::Pass,
     shares: Shares<G, E>,
 ) -> Result<bool, Fail>
+where
+    R: Returns + Drop,
+    F: Fixed,
+    G: Ledger,
+    E: Ledger,
+    H: Threads + Wait + Sync,
     requires counts { F.counts ≡ true }
-    requires pass { IfSome F.queue (λ queue. RuledReturns.is_pass queue pass) }
+    requires pass { R.is_pass F.queue pass }
     requires part { 0 < shares.parts }
 {
     let mut handle = manager.handle_with(pass, shares);
@@ -83,7 +102,8 @@ fn settles<F: Fixed<RuledReturns>, G: Ledger, E: Ledger, H: Threads + Wait + Syn
     let counts = shares.grants() == 3 && shares.rounds() == 1;
     let none = manager.drain(rt, pass) == 0;
     let state = manager.finish();
-    let want = b"grant 1 1 1 64\ngrant 2 1 1 64\ngrant 3 1 1 64\nback 1\nback 2\nback 3\nreduced 64 5 0 -\nreduced 0 6 0 -\n";
+    let want =
+        b"grant 1 1 1 64\ngrant 2 1 1 64\ngrant 3 1 1 64\nback 1\nback 2\nback 3\nreduced 64 5 0 -\nreduced 0 6 0 -\n";
     Ok(enforced && pressed && counts && none && has_text(&state, alloc, want)?)
 }
 
@@ -106,20 +126,23 @@ fn work<Q: Granter, H: Threads + Wait + Sync>(
 }
 
 /// Two clients in threads of their own share a manager, and all that they were granted comes back.
-fn share<F, G, E, H>(
+fn share<R, F, G, E, H>(
     rt: &H,
     alloc: Global,
-    manager: Manager<RuledReturns, F, G, E>,
-    mut pass: ReturnPass,
+    manager: Manager<R, F, G, E>,
+    mut pass: R::Pass,
     mut whole: Shares<G, E>,
 ) -> Result<bool, Fail>
 where
-    F: Fixed<RuledReturns> + Send + Sync,
+    R: Returns + Sync + Send + Drop,
+    R::Pass: Send,
+    R::Taker: Send,
+    F: Fixed + Send + Sync,
     G: Ledger + Send + Sync,
     E: Ledger + Send + Sync,
     H: Threads + Wait + Sync,
     requires counts { F.counts ≡ true }
-    requires pass { IfSome F.queue (λ queue. RuledReturns.is_pass queue pass) }
+    requires pass { R.is_pass F.queue pass }
     requires all { whole.parts ≡ PARTS }
 {
     let second = manager.returns().split(&mut pass);
@@ -127,46 +150,72 @@ where
     let two = manager.handle_with(second, whole.split());
     let (one, two) = thread::join(
         rt,
-        move || -> Handle<'_, RuledReturns, F, G, E> { work(rt, alloc, one, 1) },
-        move || -> Handle<'_, RuledReturns, F, G, E> { work(rt, alloc, two, 2) },
+        move || -> Handle<'_, R, F, G, E> { work(rt, alloc, one, 1) },
+        move || -> Handle<'_, R, F, G, E> { work(rt, alloc, two, 2) },
     );
     let (first_pass, first) = one.into_parts();
     let (second_pass, second) = two.into_parts();
     manager.drain(rt, first_pass);
     manager.drain(rt, second_pass);
-    let granted = first.grants() == 100 && second.grants() == 100;
-    let state = manager.finish();
-    Ok(granted && state.book().grants() == 200 && state.granted() == 0)
+    let Some(whole) = joined(whole, first) else {
+        return Ok(false);
+    };
+    let Some(whole) = joined(whole, second) else {
+        return Ok(false);
+    };
+    if whole.parts() != PARTS || whole.grants() != 200 {
+        return Ok(false);
+    }
+    let state = manager.finish_with(whole);
+    Ok(state.book().grants() == 200 && state.granted() == 0)
+}
+
+/// Shares and other shares together, where these fit.
+fn joined<G: Ledger, E: Ledger>(
+    mut whole: Shares<G, E>,
+    other: Shares<G, E>,
+) -> Option<Shares<G, E>> {
+    let fits = whole.parts() <= PARTS && other.parts() <= PARTS;
+    let few = whole.grants() <= 1000 && other.grants() <= 1000;
+    if !fits || !few || whole.rounds() > 1000 || other.rounds() > 1000 {
+        return None;
+    }
+    whole.merge(other);
+    Some(whole)
 }
 
 /// Makes a manager over a queue of this capacity, and settles or shares.
-fn ruled<F, G, E, H>(
+fn ruled<R, F, G, E, H>(
     rt: &H,
     alloc: Global,
     state: State,
-    made: (RuledReturns, ReturnPass, ReturnTaker),
+    made: (R, R::Pass, R::Taker),
     grants: Blank,
     rounds: Blank,
     in_threads: bool,
 ) -> Result<bool, Fail>
 where
-    F: Fixed<RuledReturns> + Send + Sync,
+    R: Returns + Sync + Send + Drop,
+    R::Pass: Send,
+    R::Taker: Send,
+    F: Fixed + Send + Sync,
     G: Ledger + Send + Sync,
     E: Ledger + Send + Sync,
     H: Threads + Wait + Sync,
     requires limit { state.limit ≡ F.limit }
     requires entries { state.entries ≡ F.handed }
-    requires queue { F.queue ≡ Some made.0 }
+    requires queue { F.queue ≡ R.name made.0 }
     requires counts { F.counts ≡ true }
-    requires pass { RuledReturns.is_pass made.0 made.1 }
-    requires taker { RuledReturns.is_taker made.0 made.2 }
+    requires pass { R.is_pass (R.name made.0) made.1 }
+    requires taker { R.is_taker (R.name made.0) made.2 }
     requires names { (grants.name ≡ G.name) × (rounds.name ≡ E.name) }
     requires parts { (grants.parts ≡ G.parts) × (rounds.parts ≡ E.parts) }
     requires all { (G.parts ≡ PARTS) × (E.parts ≡ PARTS) }
 {
     let (returns, pass, taker) = made;
-    let (manager, whole) =
-        Manager::<RuledReturns, F, G, E>::with_returns(state, returns, taker, grants, rounds);
+    let (manager, whole) = Manager::<R, F, G, E>::with_returns(
+        state, returns, taker, grants, rounds,
+    );
     if in_threads {
         share(rt, alloc, manager, pass, whole)
     } else {
@@ -187,7 +236,17 @@ fn returns_are_counted_in_order(rt: HostRuntime) -> Result<(), Fail> {
     let made = RuledReturns::new(rt.alloc(), 1)?;
     let grants = Blank::new(128);
     let rounds = Blank::new(128);
-    assert!(rt; ruled::<Brand, Brand, Brand, HostRuntime>(&rt, rt.alloc(), state, made, grants, rounds, false)?);
+    assert!(rt;
+        ruled::<RuledReturns, Brand, Brand, Brand, HostRuntime>(
+            &rt,
+            rt.alloc(),
+            state,
+            made,
+            grants,
+            rounds,
+            false
+        )?
+    );
     Ok(())
 }
 
@@ -197,6 +256,16 @@ fn two_clients_share_a_manager(rt: HostRuntime) -> Result<(), Fail> {
     let made = RuledReturns::new(rt.alloc(), 3)?;
     let grants = Blank::new(128);
     let rounds = Blank::new(128);
-    assert!(rt; ruled::<Brand, Brand, Brand, HostRuntime>(&rt, rt.alloc(), state, made, grants, rounds, true)?);
+    assert!(rt;
+        ruled::<RuledReturns, Brand, Brand, Brand, HostRuntime>(
+            &rt,
+            rt.alloc(),
+            state,
+            made,
+            grants,
+            rounds,
+            true
+        )?
+    );
     Ok(())
 }

@@ -24,12 +24,15 @@ impl PlainReturns {
 
 impl Returns for PlainReturns {
     ghost use Rattle.std.specs.Prelude.{⊤, ◌≡◌, []};
+    ghost use Rattle.return_queue.specs.Name.{no_queue};
 
     type Pass = PlainPass;
 
     type Taker = PlainTaker;
 
     ghost most = { λ _. 0 };
+
+    ghost name = { λ _. no_queue };
 
     ghost is_pass = { λ _ _. ⊤ };
 

@@ -1,4 +1,5 @@
 ghost use Rattle.std.specs.Prelude.{◌≡◌, ℕ, ◌+◌, ◌≤◌, List, [], ◌∷◌, ◌++◌, length, OnOk, IfErr, IfSome, IfNone};
+ghost use Rattle.return_queue.specs.Name.{QueueName};
 ghost use Rattle.return_queue.specs.Order.{Gives, IsFull, InOrder, AllTaken, Keeps};
 ghost use Rattle.return_queue.specs.declared.note.Note.{Note};
 
@@ -20,11 +21,14 @@ pub trait Returns {
     /// The capacity, in notes.
     ghost most: { Self → ℕ };
 
-    /// The pass is of this queue.
-    ghost is_pass: { Self → Self.Pass → Type 0 };
+    /// The queue's name.
+    ghost name: { Self → QueueName };
 
-    /// The taker is of this queue.
-    ghost is_taker: { Self → Self.Taker → Type 0 };
+    /// The pass is of the queue of this name.
+    ghost is_pass: { QueueName → Self.Pass → Type 0 };
+
+    /// The taker is of the queue of this name.
+    ghost is_taker: { QueueName → Self.Taker → Type 0 };
 
     /// The notes that the pass gave.
     ghost own: { Self.Pass → List Note };
@@ -43,8 +47,8 @@ pub trait Returns {
 
     /// Gives a note, or hands it back where the queue was full at a step of this call.
     fn give<R: Wait>(&self, rt: &R, pass: &mut Self::Pass, note: Note) -> Result<(), Note>
-        requires { is_pass self.now pass.old }
-        ensures queue { is_pass self.now pass.new }
+        requires { is_pass (name self.now) pass.old }
+        ensures queue { is_pass (name self.now) pass.new }
         ensures given { OnOk result
             (Gives (own pass.old) (seen pass.old) note (own pass.new) (seen pass.new)) }
         ensures back { IfErr result (λ back. back ≡ note) }
@@ -54,8 +58,8 @@ pub trait Returns {
 
     /// Takes the next note, or None where there was none at a step of this call.
     fn take<R: Wait>(&self, rt: &R, taker: &mut Self::Taker) -> Option<Note>
-        requires { is_taker self.now taker.old }
-        ensures queue { is_taker self.now taker.new }
+        requires { is_taker (name self.now) taker.old }
+        ensures queue { is_taker (name self.now) taker.new }
         ensures some { IfSome result (λ note. taken taker.new ≡ taken taker.old ++ note ∷ []) }
         ensures none { IfNone result (taken taker.new ≡ taken taker.old) }
         ensures until { until taker.new ≡ until taker.old }
@@ -69,17 +73,17 @@ pub trait Returns {
 
     /// A second pass of the same queue, which gave nothing and has seen the same.
     fn split(&self, pass: &mut Self::Pass) -> Self::Pass
-        requires { is_pass self.now pass.old }
-        ensures queue { is_pass self.now pass.new × is_pass self.now result }
+        requires { is_pass (name self.now) pass.old }
+        ensures queue { is_pass (name self.now) pass.new × is_pass (name self.now) result }
         ensures own { own pass.new ≡ own pass.old }
         ensures seen { seen pass.new ≡ seen pass.old }
         ensures second { (own result ≡ []) × (seen result ≡ seen pass.old) };
 
     /// The taker takes a pass in, and knows what it had given and had seen.
     fn take_in(&self, taker: &mut Self::Taker, pass: Self::Pass)
-        requires taker { is_taker self.now taker.old }
-        requires pass { is_pass self.now pass }
-        ensures queue { is_taker self.now taker.new }
+        requires taker { is_taker (name self.now) taker.old }
+        requires pass { is_pass (name self.now) pass }
+        ensures queue { is_taker (name self.now) taker.new }
         ensures taken { taken taker.new ≡ taken taker.old }
         ensures pass { knows taker.new (own pass) (seen pass) }
         ensures knows { Keeps (knows taker.old) (knows taker.new) }

@@ -1,7 +1,7 @@
 ghost use Rattle.std.specs.Prelude.{◌≡◌, ◌≤◌, ℕ, [], true, false, IfOk};
 ghost use Rattle.crossbeam_queue.specs.Passes.{view, IsPassOf, ruled_capacity};
 ghost use Rattle.return_queue.specs.Rule.{blank, new_taker, new_pass};
-ghost use Rattle.return_queue.specs.Ties.{IsGivingPass, IsTakingPass};
+ghost use Rattle.return_queue.specs.Ties.{name_of, IsGivingPass, IsTakingPass};
 
 use crate::rule::{Capacity, Ends, Gave, Line, Opens, Took, Twin, View};
 use crate::{Note, Returns};
@@ -52,8 +52,8 @@ impl RuledReturns {
     ) -> Result<(RuledReturns, ReturnPass, ReturnTaker), NoMemory>
         requires { (1 ≤ capacity) × (capacity ≤ 4096) }
         ensures capacity { IfOk result (λ made. made.0.capacity ≡ capacity) }
-        ensures pass { IfOk result (λ made. IsGivingPass made.0.line made.1.pass) }
-        ensures taker { IfOk result (λ made. IsTakingPass made.0.line made.2.pass) }
+        ensures pass { IfOk result (λ made. IsGivingPass (name_of made.0.line) made.1.pass) }
+        ensures taker { IfOk result (λ made. IsTakingPass (name_of made.0.line) made.2.pass) }
         ensures new_pass { IfOk result (λ made. view made.1.pass ≡ new_pass capacity) }
         ensures new_taker { IfOk result (λ made. view made.2.pass ≡ new_taker capacity) }
     {
@@ -73,7 +73,7 @@ impl RuledReturns {
 impl Returns for RuledReturns {
     ghost use Rattle.crossbeam_queue.specs.Passes.{view};
     ghost use Rattle.return_queue.specs.Rule.{KnowsIn};
-    ghost use Rattle.return_queue.specs.Ties.{IsGivingPass, IsTakingPass};
+    ghost use Rattle.return_queue.specs.Ties.{name_of, IsGivingPass, IsTakingPass};
 
     type Pass = ReturnPass;
 
@@ -81,9 +81,11 @@ impl Returns for RuledReturns {
 
     ghost most = { λ r. r.capacity };
 
-    ghost is_pass = { λ r p. IsGivingPass r.line p.pass };
+    ghost name = { λ r. name_of r.line };
 
-    ghost is_taker = { λ r t. IsTakingPass r.line t.pass };
+    ghost is_pass = { λ name p. IsGivingPass name p.pass };
+
+    ghost is_taker = { λ name t. IsTakingPass name t.pass };
 
     ghost own = { λ p. (view p.pass).own };
 

@@ -57,8 +57,8 @@ fn give_all<Q: Returns, R: Wait>(
     client: u32,
     count: u64,
 ) -> u64
-    requires { Q.is_pass queue.now pass.old }
-    ensures { Q.is_pass queue.now pass.new }
+    requires { Q.is_pass (Q.name queue.now) pass.old }
+    ensures { Q.is_pass (Q.name queue.now) pass.new }
 {
     let mut given = 0u64;
     for _ in 0..TURNS {
@@ -76,8 +76,8 @@ fn give_all<Q: Returns, R: Wait>(
 /// Takes notes of two clients, and tells whether `count` of them came, those of each client in
 /// order.
 fn take_all<Q: Returns, R: Wait>(rt: &R, queue: &Q, taker: &mut Q::Taker, count: u64) -> bool
-    requires { Q.is_taker queue.now taker.old }
-    ensures { Q.is_taker queue.now taker.new }
+    requires { Q.is_taker (Q.name queue.now) taker.old }
+    ensures { Q.is_taker (Q.name queue.now) taker.new }
 {
     let (mut first, mut second) = (0u64, 0u64);
     for _ in 0..TURNS {
@@ -107,27 +107,27 @@ where
     Q::Pass: Send,
     Q::Taker: Send,
     R: Threads + Wait + Sync,
-    requires passes { Q.is_pass queue.now first × Q.is_pass queue.now second }
-    requires taker { Q.is_taker queue.now taker }
+    requires passes { Q.is_pass (Q.name queue.now) first × Q.is_pass (Q.name queue.now) second }
+    requires taker { Q.is_taker (Q.name queue.now) taker }
 {
     let (given, taken) = thread::join(
         rt,
         move || -> u64
-            requires { Q.is_pass queue.now first × Q.is_pass queue.now second }
+            requires { Q.is_pass (Q.name queue.now) first × Q.is_pass (Q.name queue.now) second }
         {
             let (one, two) = thread::join(
                 rt,
                 move || -> u64
-                    requires { Q.is_pass queue.now first }
+                    requires { Q.is_pass (Q.name queue.now) first }
                 { give_all(rt, queue, &mut first, 1, 1000) },
                 move || -> u64
-                    requires { Q.is_pass queue.now second }
+                    requires { Q.is_pass (Q.name queue.now) second }
                 { give_all(rt, queue, &mut second, 2, 1000) },
             );
             one.saturating_add(two)
         },
         move || -> bool
-            requires { Q.is_taker queue.now taker }
+            requires { Q.is_taker (Q.name queue.now) taker }
         { take_all(rt, queue, &mut taker, 2000) },
     );
     given == 2000 && taken
