@@ -107,6 +107,33 @@ where
     Ok(enforced && pressed && counts && none && has_text(&state, alloc, want)?)
 }
 
+/// A segment that came back to a queue of four is counted when the queue is drained.
+fn drains<R, F, G, E, H>(
+    rt: &H,
+    alloc: Global,
+    manager: Manager<R, F, G, E>,
+    pass: R::Pass,
+    shares: Shares<G, E>,
+) -> Result<bool, Fail>
+where
+    R: Returns + Drop,
+    F: Fixed,
+    G: Ledger,
+    E: Ledger,
+    H: Threads + Wait + Sync,
+    requires counts { F.counts ≡ true }
+    requires pass { R.is_pass F.queue pass }
+    requires part { 0 < shares.parts }
+{
+    let mut handle = manager.handle_with(pass, shares);
+    let side = handle.grant(rt, alloc, 1, 1, 1)?;
+    handle.give_back(rt, 1, 1, block_of(side));
+    let (pass, _shares) = handle.into_parts();
+    let one = manager.drain(rt, pass) == 1;
+    let state = manager.finish();
+    Ok(one && has_text(&state, alloc, b"grant 1 1 1 64\nback 1\n")?)
+}
+
 /// A client's segments come and go, until so many were granted.
 fn work<Q: Granter, H: Threads + Wait + Sync>(
     rt: &H,
@@ -184,7 +211,15 @@ fn joined<G: Ledger, E: Ledger>(
     Some(whole)
 }
 
-/// Makes a manager over a queue of this capacity, and settles or shares.
+/// What is done with a manager.
+#[derive(Clone, Copy)]
+enum Run {
+    Settles,
+    Drains,
+    Shares,
+}
+
+/// Makes a manager over this queue, and does this with it.
 fn ruled<R, F, G, E, H>(
     rt: &H,
     alloc: Global,
@@ -192,7 +227,7 @@ fn ruled<R, F, G, E, H>(
     made: (R, R::Pass, R::Taker),
     grants: Blank,
     rounds: Blank,
-    in_threads: bool,
+    run: Run,
 ) -> Result<bool, Fail>
 where
     R: Returns + Sync + Send + Drop,
@@ -216,10 +251,10 @@ where
     let (manager, whole) = Manager::<R, F, G, E>::with_returns(
         state, returns, taker, grants, rounds,
     );
-    if in_threads {
-        share(rt, alloc, manager, pass, whole)
-    } else {
-        settles(rt, alloc, manager, pass, whole)
+    match run {
+        Run::Settles => settles(rt, alloc, manager, pass, whole),
+        Run::Drains => drains(rt, alloc, manager, pass, whole),
+        Run::Shares => share(rt, alloc, manager, pass, whole),
     }
 }
 
@@ -244,7 +279,7 @@ fn returns_are_counted_in_order(rt: HostRuntime) -> Result<(), Fail> {
             made,
             grants,
             rounds,
-            false
+            Run::Settles
         )?
     );
     Ok(())
@@ -264,7 +299,27 @@ fn two_clients_share_a_manager(rt: HostRuntime) -> Result<(), Fail> {
             made,
             grants,
             rounds,
-            true
+            Run::Shares
+        )?
+    );
+    Ok(())
+}
+
+#[test]
+fn a_queue_is_drained(rt: HostRuntime) -> Result<(), Fail> {
+    let state = State::new(rt.alloc(), 64, 0)?;
+    let made = RuledReturns::new(rt.alloc(), 4)?;
+    let grants = Blank::new(128);
+    let rounds = Blank::new(128);
+    assert!(rt;
+        ruled::<RuledReturns, Brand, Brand, Brand, HostRuntime>(
+            &rt,
+            rt.alloc(),
+            state,
+            made,
+            grants,
+            rounds,
+            Run::Drains
         )?
     );
     Ok(())
