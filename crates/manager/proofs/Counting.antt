@@ -1,5 +1,5 @@
 -- What was taken and counted, after one more note.
-use Rattle.std.proofs.Common.{◌≡◌, ℕ, ◌+◌, ◌≤◌, Bool, true, false, ◌&&◌, List, [], ◌∷◌, ◌++◌, length, min, sym, refl, ap, ◌∙◌, subst, append_assoc, arith, if◌then◌else◌}
+use Rattle.std.proofs.Common.{◌≡◌, ℕ, ◌+◌, Bool, true, false, ◌&&◌, List, [], ◌∷◌, ◌++◌, length, min, sym, refl, ap, ◌∙◌, subst, append_assoc, arith, if◌then◌else◌}
 use Rattle.std.proofs.lemmas.List.{length-append, append-nil}
 use Rattle.discard_book.specs.declared.entry.Entry.{Entry}
 use Rattle.discard_book.specs.declared.entry.Entry.TheVariants as entry

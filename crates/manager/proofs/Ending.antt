@@ -1,5 +1,5 @@
 -- What a reduction tells of its end.
-use Rattle.std.proofs.Common.{◌≡◌, ℕ, List, Bool, true, ◌||◌, nat_le, Option, Some, None, Result, Ok, Err, refl, sym, ap, ◌∙◌}
+use Rattle.std.proofs.Common.{◌≡◌, ℕ, List, Bool, ◌||◌, nat_le, Option, Some, None, Result, Ok, Err, refl, sym, ap, ◌∙◌}
 use Rattle.std.specs.Prelude.{IfOk, option_map}
 use Rattle.machine.specs.Reduction.{Candidate, use_of, is_late, least}
 use Rattle.segment.specs.Warded.{Warded}

@@ -1,5 +1,5 @@
 -- What lies behind the lock keeps what was fixed.
-use Rattle.std.proofs.Common.{◌≡◌, ℕ, ◌+◌, ◌^◌, ◌<◌, ◌≤◌, Bool, true, false, cond, List, [], ◌∷◌, ◌++◌, length, Option, Some, None, is_some, refl, sym, ap, ◌∙◌, subst, arith}
+use Rattle.std.proofs.Common.{◌≡◌, ℕ, ◌+◌, ◌^◌, ◌<◌, ◌≤◌, Bool, List, length, Option, Some, None, is_some, refl, sym, ap, ◌∙◌, subst, arith}
 use Rattle.std.specs.List.{count_by}
 use Rattle.std.proofs.lemmas.List.{length-append}
 use Rattle.std.proofs.lemmas.List.Sums.{count_by-le-length}
@@ -7,11 +7,11 @@ use Rattle.std.specs.Prelude.{IfSome, option_map}
 use Rattle.discard_book.specs.declared.entry.Entry.{Entry}
 use Rattle.manager_state.specs.Managed.{Managed}
 use Rattle.manager.specs.Tokens.{Tokens, with_grant, with_round}
-use Rattle.manager.specs.Grows.{Grows, IsAccounted, IsKept}
+use Rattle.manager.specs.Grows.{Grows, IsKept}
 use Rattle.discard_book.specs.Live.{grants}
 use Rattle.manager.specs.Counted.{counted}
 use Rattle.manager.specs.Grows.{is_round}
-use Rattle.manager.proofs.Growth.{grows_none, grows_more, grows_grants, count_by-append}
+use Rattle.manager.proofs.Growth.{grows_none, grows_more, grows_grants}
 use Rattle.manager.proofs.StateGrows.{counted_grows, Kept}
 
 told_more : (a b g r : ℕ) (f : Tokens → Tokens) → ((t : Tokens) → (f t).grants ≡ t.grants + a) → ((t : Tokens) → (f t).rounds ≡ t.rounds + b) → (totals : Option Tokens)

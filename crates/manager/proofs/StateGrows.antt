@@ -1,7 +1,6 @@
 -- Each call of a state grows its book.
-use Rattle.std.proofs.Common.{◌≡◌, ◌⊎◌, ⊎_elim, ℕ, ◌+◌, Bool, true, false, ◌&&◌, List, [], ◌∷◌, ◌++◌, Option, Some, None, Result, Ok, Err, refl, sym, ap, ◌∙◌, subst, arith, if◌then◌else◌, nat_lt, length, map}
+use Rattle.std.proofs.Common.{◌≡◌, ⊎_elim, ℕ, ◌+◌, Bool, true, false, ◌&&◌, List, [], ◌∷◌, ◌++◌, Result, Ok, Err, refl, sym, ap, ◌∙◌, subst, arith, if◌then◌else◌, nat_lt}
 use Rattle.std.specs.Prelude.{MatchBool, IfOk, OnErr}
-use Rattle.std.proofs.lemmas.List.{append-nil}
 use Rattle.machine.specs.Reduction.{tries, purged_by}
 use Rattle.lru_reduce.specs.Wards.{candidates_of, total_pages}
 use Rattle.lru_reduce.specs.declared.reduction.Reduced.{Reduced}

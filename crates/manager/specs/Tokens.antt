@@ -1,5 +1,5 @@
 -- What shares of a manager's ledgers, and their totals, count.
-use Rattle.std.specs.Prelude.{ℕ, ◌+◌, Option, Some, None, option_map}
+use Rattle.std.specs.Prelude.{ℕ, ◌+◌, Option, option_map}
 
 -- how many parts of the whole they have, and the grants and the enforcements that they count
 pub record Tokens : Type 0 where

@@ -1,4 +1,4 @@
-use Rattle.std.proofs.Common.{true, false}
+use Rattle.std.proofs.Common.{true}
 use Rattle.return_queue.specs.Ties.{name_of}
 use Rattle.manager.proofs.tests.a_queue_is_drained.Given as goal
 

@@ -1,4 +1,4 @@
-use Rattle.std.proofs.Common.{true, false}
+use Rattle.std.proofs.Common.{false}
 use Rattle.return_queue.specs.Name.{no_queue}
 use Rattle.manager.proofs.tests.pressure_and_enforcement.Given as goal
 

@@ -1,4 +1,4 @@
-use Rattle.std.proofs.Common.{true, false}
+use Rattle.std.proofs.Common.{true}
 use Rattle.return_queue.specs.Ties.{name_of}
 use Rattle.manager.proofs.tests.two_clients_share_a_manager.Given as goal
 

@@ -1,4 +1,4 @@
-use Rattle.std.proofs.Common.{rules, ◌≡◌, ℕ, ◌+◌, ◌<◌, ◌≤◌, ap, ◌∙◌, arith}
+use Rattle.std.proofs.Common.{ap, ◌∙◌, arith}
 use Rattle.discard_book.specs.Live.{grants}
 use Rattle.manager.proofs.Keeping.{kept_by, kept_grant, few_grants}
 use Rattle.manager.proofs.StateGrows.{runs_out_kept, grants_grows}

@@ -1,4 +1,4 @@
-use Rattle.std.proofs.Common.{rules, ◌≡◌, ◌≤◌, ◌+◌, ◌-◌, ◌^◌, min, ℕ, length, sym, ap, ◌∙◌, arith}
+use Rattle.std.proofs.Common.{rules, ◌≡◌, ◌+◌, ◌-◌, ◌^◌, min, ap, ◌∙◌}
 use Rattle.manager.proofs.Counting.{turned, capped}
 use Rattle.manager.proofs.desk.Desk.drain.Goals as goal
 

@@ -1,5 +1,5 @@
-use Rattle.std.proofs.Common.{rules, ◌≡◌, ◌≤◌, ◌+◌, ℕ, length, sym, ap, ◌∙◌, arith}
-use Rattle.manager.proofs.Counting.{turned, turned_none, longer}
+use Rattle.std.proofs.Common.{rules, ◌≡◌, ◌+◌, ap, ◌∙◌, arith}
+use Rattle.manager.proofs.Counting.{turned, longer}
 use Rattle.manager.proofs.desk.Desk.settle.Goals as goal
 
 pub loop-preserved : goal.loop-preserved

@@ -1,4 +1,4 @@
-use Rattle.std.proofs.Common.{◌≡◌, ℕ, ◌+◌, ◌≤◌, List, ◌++◌, length}
+use Rattle.std.proofs.Common.{◌≡◌, ◌≤◌, length}
 use Rattle.return_queue.specs.Order.{AllTaken, Keeps}
 use Rattle.manager.specs.Counted.{CountsNotes}
 use Rattle.manager.proofs.desk.Desk.settle.Given as goal

@@ -1,4 +1,4 @@
-use Rattle.std.proofs.Common.{rules, ◌≡◌, ◌≤◌, ◌+◌, ◌++◌, ℕ, length, sym, ap, ◌∙◌, arith}
+use Rattle.std.proofs.Common.{◌++◌, length, sym, ap, ◌∙◌, arith}
 use Rattle.manager.proofs.Counting.{counted_snoc}
 use Rattle.manager_state.specs.Calls.{answer_of_back}
 use Rattle.manager.specs.Counted.{count_one, pair_of}
