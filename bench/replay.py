@@ -7,7 +7,8 @@ A program is by default the built one, crates/discard/out/discard; where several
 one, each is measured. The programs and scripts take turns, an empty script among them, many times over. Of each script the
 time is its processor time less that of the empty script in the same turn, so that the start of a process is left out: printed
 are the median over all turns and, in parentheses, the quartiles. Where a quarter of these differences is not above 0, the
-script took less than what the machine's noise hides. Before, the replies are compared with what the script must give.
+script took less than what the machine's noise hides. Before, the replies are compared with what the script must give. A program
+that does not know a script's commands or options is left out there.
 """
 
 import os
@@ -15,11 +16,17 @@ import subprocess
 import sys
 import tempfile
 
-from measure import Spread, peak, programs, spent
+from measure import TOP, Spread, peak, programs, spent
+
+sys.path.insert(0, os.path.join(TOP, "tests"))
+
+import model  # noqa: E402
+import replays  # noqa: E402
 
 TURNS = 101
 MOST_BYTES = 1 << 20
 COUNTS = (64, 512, 4096)
+SEGMENTS = (256, 1024)
 
 
 def mixed(count):
@@ -64,13 +71,29 @@ def long_script():
     return lines, replies
 
 
+def low_limit(count):
+    """Segments of one page under a limit that leaves room for half of them, so that each later grant purges one."""
+    return [line for at in range(1, count + 1) for line in (f"grant 1 1 {at}", f"unlock {at} 0 1 {at}")]
+
+
+def pressure(count):
+    """Held segments, and then pressure up to 4,096 commands: each tries every segment and finds it held."""
+    moments = range(2, 4098 - count)
+    lines = ["grant 1 1 1"] * count + [f"pressure critical {at}" for at in moments]
+    return lines, [f"segment {at}" for at in range(1, count + 1)] + [f"reduced {count} {at}" for at in moments]
+
+
 def text(lines):
     return "".join(line + "\n" for line in lines).encode()
 
 
 class Script:
-    def __init__(self, folder, name, lines, replies):
+    def __init__(self, folder, name, lines, replies=None, limit=None):
         self.name = name
+        self.words = ["replay"] if limit is None else ["replay", "--limit", str(limit)]
+        if replies is None:
+            most = model.MOST_LIMIT if limit is None else limit
+            replies = replays.text_of(model.commands_of(text(lines)), most, 64).decode().splitlines()
         self.commands = sum(not line.startswith("#") for line in lines)
         self.granted = 4 * sum(int(line.split()[2]) for line in lines if line.startswith("grant"))
         self.bytes = text(lines)
@@ -86,21 +109,32 @@ def scripts(folder):
         for count in COUNTS:
             yield Script(folder, f"{name} {count}", *make(count))
     yield Script(folder, "1 MiB", *long_script())
+    for count in SEGMENTS:
+        yield Script(folder, f"low limit {count}", low_limit(count), limit=count // 2)
+        yield Script(folder, f"pressure {count}", *pressure(count))
+
+
+def knows(program, script):
+    """Whether a program runs a script; it must then give the right replies."""
+    done = subprocess.run([program, *script.words], input=script.bytes, stdout=subprocess.PIPE, stderr=subprocess.PIPE)
+    if done.returncode in (2, 3):
+        return False
+    if done.stdout != script.replies or done.stderr:
+        sys.exit(f"{program}: the replies to the script {script.name} are not what it must give")
+    return True
 
 
 def main():
     named = programs()
     with tempfile.TemporaryDirectory(prefix="replay-bench-") as folder:
         every = list(scripts(folder))
-        for program in named:
-            for script in every:
-                if subprocess.run([program, "replay"], input=script.bytes, stdout=subprocess.PIPE).stdout != script.replies:
-                    sys.exit(f"{program}: the replies to the script {script.name} are not what it must give")
-        times = {(program, script.name): [] for program in named for script in every}
+        known = {(program, script.name) for program in named for script in every if knows(program, script)}
+        times = {both: [] for both in known}
         for _ in range(TURNS):
             for script in every:
                 for program in named:
-                    times[program, script.name].append(spent([program, "replay"], script.path, os.devnull))
+                    if (program, script.name) in known:
+                        times[program, script.name].append(spent([program, *script.words], script.path, os.devnull))
         for program in named:
             tell(folder, program, every, {name: found for (of, name), found in times.items() if of == program})
 
@@ -109,18 +143,28 @@ def tell(folder, program, every, times):
     print(f"{program}, {TURNS} turns")
     base = peak(folder, [program, "replay"], every[0].path)
     print(f"  empty: {Spread(times['empty']).each(1, 1e3)} ms, peak {base} KiB")
+    above = {name: Spread([own - empty for own, empty in zip(found, times["empty"])]) for name, found in times.items()}
     for script in every[1:]:
-        above = Spread([own - empty for own, empty in zip(times[script.name], times["empty"])])
-        more = peak(folder, [program, "replay"], script.path) - base
+        if script.name not in times:
+            continue
+        own = above[script.name]
+        more = peak(folder, [program, *script.words], script.path) - base
         memory = f"peak {more} KiB above empty, {script.granted} KiB granted"
-        if above.is_noise():
-            print(f"  {script.name}: below the noise ({above.each(1, 1e6)} µs in all); {memory}")
+        if own.is_noise():
+            print(f"  {script.name}: below the noise ({own.each(1, 1e6)} µs in all); {memory}")
         else:
-            print(f"  {script.name}: {above.each(script.commands)} ns a command, {above.each(len(script.bytes))} ns a byte; {memory}")
+            print(f"  {script.name}: {own.each(script.commands)} ns a command, {own.each(len(script.bytes))} ns a byte; {memory}")
     few, many = COUNTS[-2:]
     for name in ("mixed", "locks"):
         more = Spread([own - less for own, less in zip(times[f"{name} {many}"], times[f"{name} {few}"])])
         print(f"  {name}: each command from {few} to {many}: {more.each(many - few)} ns")
+    few, many = SEGMENTS
+    if f"pressure {many}" in above:
+        reductions = {count: 4096 - count for count in SEGMENTS}
+        growth = above[f"pressure {many}"].median / reductions[many] / (above[f"pressure {few}"].median / reductions[few])
+        print(f"  pressure: a reduction that tries {many} segments costs {growth:.2f} times one that tries {few}")
+        growth = above[f"low limit {many}"].median / above[f"low limit {few}"].median
+        print(f"  low limit: {many} grants cost {growth:.2f} times {few}")
 
 
 if __name__ == "__main__":

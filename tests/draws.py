@@ -26,7 +26,7 @@ def long_script(seed):
 def broken_script(seed):
     """A script in which a few words, lines or bytes were changed."""
     draw = random.Random(f"broken script {seed}")
-    lines = commands(draw)
+    lines = draw.choice((commands(draw), managed(draw, 30)))
     for _ in range(draw.choice((1, 1, 1, 2, 3))):
         break_line(draw, lines)
     text = bytearray(text_of(draw, lines))
@@ -102,6 +102,72 @@ def grant(draw, segments):
     return ["grant", str(draw.randrange(1, 65)), str(segments[-1].pages), str(draw.randrange(1, 9))]
 
 
+MANAGED = {
+    "grant": 4, "lock": 4, "unlock": 8, "write": 2, "read": 2, "try": 3, "back": 2, "reduce": 2, "enforce": 1, "pressure": 1, "limit": 1,
+    "remove": 0.5, "granted": 1,
+}  # fmt: skip
+
+
+def managed_script(seed):
+    """A lawful script of every command on segments and on the manager, under a limit of its own."""
+    draw = random.Random(f"managed script {seed}")
+    return managed_words(draw), text_of(draw, managed(draw, draw.choice((3, 10, 30, 100, 300)))), {}
+
+
+def long_managed_script(seed):
+    """The same with 4,096 lines, each a command."""
+    draw = random.Random(f"long managed script {seed}")
+    lines = managed(draw, 4095)
+    return managed_words(draw), "".join(" ".join(line) + "\n" for line in lines).encode(), {}
+
+
+def managed_words(draw):
+    given = [b"replay"]
+    if draw.random() < 0.8:
+        given += option(draw, "--limit", draw.choice((0, 1, 4, 8, 20, 60, 200, 1048576)))
+    if draw.random() < 0.5:
+        given += option(draw, "--keep", draw.choice((0, 1, 2, 16, 256)))
+    return given
+
+
+def option(draw, name, value):
+    return [name.encode(), b"%d" % value] if draw.random() < 0.5 else [f"{name}={value}".encode()]
+
+
+def managed(draw, count):
+    """Commands of which most hit segments that were granted, and not all of which are there any more."""
+    segments = []
+    lines = [small_grant(draw, segments)]
+    now = 1
+    while len(lines) <= count:
+        now += draw.choice((0, 0, 1, 1, 5))
+        moment = draw.choice((now, now, now, now, now, draw.randrange(1, now + 1), LAST_MOMENT))
+        kind = draw.choices(list(MANAGED), MANAGED.values())[0]
+        if kind == "grant":
+            lines.append(small_grant(draw, segments, now) if len(segments) < 1024 else ["granted"])
+        elif kind in ("reduce", "limit"):
+            lines.append([kind, str(draw.choice((0, 1, 3, 8, 20, 60, 200))), str(moment)])
+        elif kind == "enforce":
+            lines.append([kind, str(moment)])
+        elif kind == "pressure":
+            lines.append([kind, draw.choice(("moderate", "critical")), str(moment)])
+        elif kind == "remove":
+            lines.append([kind, str(draw.randrange(1, 7))])
+        elif kind == "granted":
+            lines.append([kind])
+        else:
+            number = max(1, len(segments) - int(draw.expovariate(0.15)))
+            lines.append([kind, str(draw.choice((number,) * 30 + (0, len(segments) + 1, LAST_NUMBER)))])
+            if kind != "back":
+                lines[-1] += values(draw, kind, segments[number - 1], moment)
+    return lines
+
+
+def small_grant(draw, segments, now=1):
+    segments.append(Drawn(draw.choice((1, 1, 1, 2, 3, 4, 9))))
+    return ["grant", str(draw.randrange(1, 7)), str(segments[-1].pages), str(now)]
+
+
 def text_of(draw, lines):
     ends = draw.choice(("\n", "\n", "\r\n", " \n", "\t\r\r\n"))
     spaces = draw.choice((" ", " ", "\t", " \t ", "  "))
@@ -129,7 +195,7 @@ def break_line(draw, lines):
     elif kind in (2, 3, 4):
         line[word] = draw.choice(BAD_NUMBERS)
     elif kind == 5:
-        line[0] = draw.choice(("Grant", "grants", "gran", "back", "reduce", "granted", "x", "lock", "try", "read", "write"))
+        line[0] = draw.choice(("Grant", "grants", "gran", "back", "reduce", "granted", "pressure", "x", "lock", "try", "read", "write"))
     elif kind == 6:
         line.reverse()
     else:
@@ -140,7 +206,7 @@ def break_line(draw, lines):
 POOL = (
     "replay", "tile", "serve", "gen", "a.pgm", "a.pgm", "a.pgm", "b.pgm", "--x", "", "-", "--", "--", "0", "0", "1", "6", "7", "00", "65535",
     "65536", "--side", "--side", "--side=64", "--side=128", "--side=256", "--side=", "--side=65", "--side=64=", "-side", "--sid", "--sidex",
-    "64", "128", "256", "100", "--limit", "--limit=4", "--help", "-h", "18446744073709551616", "\u00e9",
+    "64", "128", "256", "100", "--limit", "--limit=4", "--keep", "--keep=2", "--keep=257", "--limit=1048577", "16", "1048576", "--help", "-h", "18446744073709551616", "\u00e9",
 )  # fmt: skip
 
 
@@ -151,6 +217,11 @@ def words(seed):
         given = [draw.choice(POOL) for _ in range(draw.randrange(8))]
     elif draw.random() < 0.2:
         given = ["replay"] + [draw.choice(POOL) for _ in range(draw.randrange(3))]
+    elif draw.random() < 0.3:
+        given = ["replay"]
+        for name in ("--limit", "--keep", draw.choice(("--limit", "--keep", "--standard", "--"))):
+            value = draw.choice(("0", "4", "256", "04", "-4", "", "1048576", "1048577"))
+            given += draw.choice(([], [name, value], [f"{name}={value}"], [name]))
     else:
         given = ["tile", "a.pgm", draw.choice("0123456"), draw.choice("001"), draw.choice("001")]
         for _ in range(draw.randrange(4)):

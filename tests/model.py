@@ -6,13 +6,15 @@ of one run with ordinary devices and ample memory.
 
 import re
 
-PAGE = 4096
+import replays
+
 LAST_MOMENT = 1 << 62
 LAST_NUMBER = (1 << 64) - 1
 
 MOST_SCRIPT_BYTES = 1_048_576
 MOST_COMMANDS = 4096
 MOST_GRANTS = 1024
+MOST_LIMIT = 1_048_576
 MOST_SIDE = 8192
 
 STATUS = {"done": 0, "no memory": 1, "usage": 2, "bad input": 3, "read fault": 4, "write fault": 5, "file fault": 6}
@@ -45,7 +47,7 @@ def outcome(words, script, files):
 def run(words, script, files):
     command, positional, options = order_of(words)
     if command == b"replay":
-        return replay_text(commands_of(script))
+        return replays.text_of(commands_of(script), options.get(b"--limit", MOST_LIMIT), options.get(b"--standard", 64))
     name, z, x, y = positional
     if name not in files:
         raise FileFault
@@ -78,7 +80,7 @@ def side(word):
 
 # Of each command the readings of its positional words, and those of its options.
 WORDS = {
-    b"replay": ([], {}),
+    b"replay": ([], {b"--limit": in_range(0, MOST_LIMIT), b"--keep": in_range(0, 256)}),
     b"tile": ([file_name, in_range(0, 6), in_range(0, 65535), in_range(0, 65535)], {b"--side": side}),
 }
 
@@ -135,6 +137,12 @@ FIRST = in_range(0, 511)
 PAGES = in_range(1, 512)
 PLACE = in_range(0, 2097151)
 COUNT = in_range(1, 4096)
+LIMIT = in_range(0, MOST_LIMIT)
+
+
+def level(word):
+    return word if word in (b"moderate", b"critical") else None
+
 
 COMMANDS = {
     b"grant": (CLIENT, PAGES, MOMENT),
@@ -143,9 +151,17 @@ COMMANDS = {
     b"write": (SEGMENT, PLACE, hex_of),
     b"read": (SEGMENT, PLACE, COUNT),
     b"try": (SEGMENT, MOMENT),
+    b"back": (SEGMENT,),
+    b"reduce": (LIMIT, MOMENT),
+    b"enforce": (MOMENT,),
+    b"pressure": (level, MOMENT),
+    b"limit": (LIMIT, MOMENT),
+    b"remove": (CLIENT,),
+    b"granted": (),
 }
 
 NO_COMMAND, WRONG_COUNT, NO_NUMBER, NO_BYTES, TOO_MANY, TOO_LONG = range(1, 7)
+CAUSES = {hex_of: NO_BYTES, level: NO_COMMAND}
 
 
 def lines_of(text):
@@ -174,91 +190,13 @@ def commands_of(script):
         for reading, word in zip(readings, words):
             value = reading(word)
             if value is None:
-                raise Refused(at, NO_BYTES if reading is hex_of else NO_NUMBER)
+                raise Refused(at, CAUSES.get(reading, NO_NUMBER))
             values.append(value)
-        grants += name == b"grant"
+        grants += name in (b"grant", b"alloc")
         if len(commands) == MOST_COMMANDS or grants > MOST_GRANTS:
             raise Refused(at, TOO_MANY)
         commands.append((name, values))
     return commands
-
-
-# Segments
-
-
-class Segment:
-    def __init__(self, pages):
-        self.pages = pages
-        self.held = set(range(pages))
-        self.stamp = 0
-        self.known = None
-        self.gone = False
-        self.left = bytearray(pages * PAGE)
-
-
-def replay_text(commands):
-    """The reply to each command, a line each."""
-    segments = {}
-    return b"".join(reply(segments, name, values).encode() + b"\n" for name, values in commands)
-
-
-def reply(segments, name, values):
-    if name == b"grant":
-        number = len(segments) + 1
-        segments[number] = Segment(values[1])
-        return f"segment {number}"
-    segment = segments.get(values[0])
-    if segment is None:
-        return "misuse"
-    return {b"lock": lock, b"unlock": unlock, b"write": write, b"read": read, b"try": purge}[name](segment, *values[1:])
-
-
-def lock(segment, first, count):
-    pages = set(range(first, first + count))
-    if first + count > segment.pages or pages & segment.held:
-        return "misuse"
-    if segment.gone:
-        return "gone"
-    segment.held |= pages
-    return "held"
-
-
-def unlock(segment, first, count, at):
-    pages = set(range(first, first + count))
-    if not pages <= segment.held:
-        return "misuse"
-    segment.held -= pages
-    if segment.held:
-        return f"held {len(segment.held)}"
-    segment.stamp = max(segment.stamp, at)
-    return f"idle {segment.stamp}"
-
-
-def is_held(segment, place, count):
-    return all(page in segment.held for page in range(place // PAGE, (place + count - 1) // PAGE + 1))
-
-
-def write(segment, place, data):
-    if not is_held(segment, place, len(data)):
-        return "misuse"
-    segment.left[place : place + len(data)] = data
-    return "ok"
-
-
-def read(segment, place, count):
-    if not is_held(segment, place, count):
-        return "misuse"
-    return segment.left[place : place + count].hex()
-
-
-def purge(segment, now):
-    if segment.gone:
-        return "misuse"
-    if not segment.held and segment.known == segment.stamp:
-        segment.gone = True
-        return "taken"
-    segment.known = now if segment.held else segment.stamp
-    return f"used {segment.known}"
 
 
 # Images and tiles

@@ -1,5 +1,6 @@
 -- The commands: which words each takes, and what they ask for.
 use Rattle.std.specs.Prelude.{ℕ, ◌==◌, ◌||◌, if◌then◌else◌, List, [], ◌∷◌, codes, bytes_eq, Option, Some, None, option_and_then}
+use Rattle.line_text.specs.declared.limits.TheConstants.{MOST_LIMIT}
 use Rattle.line_text.specs.Number.{number_in}
 use Rattle.replay_run.specs.declared.config.ReplayCfg.{ReplayCfg}
 use Rattle.replay_run.specs.Config.{default_settings}
@@ -30,10 +31,22 @@ pub record Setting : Type 0 where
 abbrev pub side_setting : Setting
 side_setting = record { name = codes "side"; least = 64; most = 256; default = 256 }
 
--- the number that an option is set to by its value, if it has one, or None where this is not a number in its range
+-- `--limit`: how many pages the manager grants at most
+abbrev pub limit_setting : Setting
+limit_setting = record { name = codes "limit"; least = 0; most = MOST_LIMIT; default = default_settings.limit }
+
+-- `--keep`: how many blocks the pool keeps
+abbrev pub keep_setting : Setting
+keep_setting = record { name = codes "keep"; least = 0; most = 256; default = default_settings.keep }
+
+-- the number that a value is, or the default where there is no value; None where the value is not a number in the range
+abbrev pub number_or : ℕ → ℕ → ℕ → Option (List ℕ) → Option ℕ
+number_or least most default None = Some default
+number_or least most default (Some value) = number_in value least most
+
+-- the number that an option is set to by its value, if it has one
 abbrev pub number_set : Setting → Option (List ℕ) → Option ℕ
-number_set setting None = Some setting.default
-number_set setting (Some value) = number_in value setting.least setting.most
+number_set setting value = number_or setting.least setting.most setting.default value
 
 -- a side is 64, 128 or 256
 abbrev pub allowed_side : ℕ → Option ℕ
@@ -50,15 +63,18 @@ named (byte ∷ bytes) = Some (byte ∷ bytes)
 
 -- ---- the commands
 
--- `replay` has no positional word and no option
+-- `replay` has no positional word, and the options `--limit` and `--keep`
 abbrev pub replay_options : List (List ℕ)
-replay_options = []
+replay_options = limit_setting.name ∷ keep_setting.name ∷ []
 
 abbrev pub replay_of : GivenWords → Option OrderValue
 replay_of given = none given.positional
   where
     none : List (List ℕ) → Option OrderValue
-    none [] = Some (Replay default_settings)
+    none [] = do
+      limit ← number_set limit_setting (value_of limit_setting.name given.options)
+      keep ← number_set keep_setting (value_of keep_setting.name given.options)
+      Some (Replay (record default_settings { limit = limit; keep = keep }))
     none _ = None
 
 -- `tile` has four positional words, a file with a name, a zoom, a column and a row, and the option `--side`

@@ -1,7 +1,6 @@
 -- How the code has what the words ask for.
 use Rattle.std.specs.Prelude.{◌≡◌, ℕ, ◌⊎◌}
 use Rattle.tile_source.specs.Tile.{IsTile}
-use Rattle.replay_run.specs.Config.{HoldsDefaults}
 use Rattle.discard.specs.declared.orders.Order.{Order}
 use Rattle.discard.specs.declared.orders.Order.TheVariants as order
 use Rattle.discard.specs.Commands.{OrderValue, Replay, WriteTile}
@@ -17,5 +16,5 @@ IsSide side = (side ≡ 64) ⊎ (side ≡ 128) ⊎ (side ≡ 256)
 
 -- it can be done as it is asked for
 abbrev pub CanBeDone : Order → Type 0
-CanBeDone (order.Replay cfg) = HoldsDefaults cfg
+CanBeDone (order.Replay cfg) = Unit {0}
 CanBeDone (order.Tile file tile side) = IsTile tile × IsSide side

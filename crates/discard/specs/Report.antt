@@ -1,12 +1,13 @@
 -- What is told on the report.
-use Rattle.std.specs.Prelude.{◌≡◌, ◌≢◌, ℕ, ◌≤◌, ◌⊎◌, List, [], ◌++◌, codes, decimal, Option}
+use Rattle.std.specs.Prelude.{◌≡◌, ◌≢◌, ℕ, ◌≤◌, ◌⊎◌, List, [], ◌++◌, codes, decimal, Option, Some, None}
 use Rattle.units.specs.Count.{HasRisen}
 use Rattle.discard_io.specs.declared.status.Status.{Status}
 use Rattle.discard_io.specs.declared.status.Status.TheVariants.{Done, NoMemory, Usage, BadInput, ReadFault, WriteFault, FileFault}
 use Rattle.discard_io.specs.Streams.{appended, WroteFront}
+use Rattle.replay_run.specs.declared.replaying.Differ.{Differ}
 use Rattle.discard.specs.declared.top.Ended.{Ended}
 use Rattle.discard.specs.declared.top.Run.{Run}
-use Rattle.discard.specs.declared.top.Run.TheVariants.{Nothing}
+use Rattle.discard.specs.declared.top.Run.TheVariants.{Nothing, Replay}
 
 -- the line for a status, and nothing for Done
 abbrev pub status_line : Status → List ℕ
@@ -18,9 +19,15 @@ status_line ReadFault = codes "discard: read fault\n"
 status_line WriteFault = codes "discard: write fault\n"
 status_line FileFault = codes "discard: file fault\n"
 
--- the text that the report gets for a run that is done: none has one yet
+-- the line for the first command at which two runs of a script differ, and nothing where they agree
+abbrev pub differ_line : Option Differ → List ℕ
+differ_line None = []
+differ_line (Some differ) = codes "discard: line " ++ decimal differ.place ++ codes " differs\n"
+
+-- the text that the report gets for a run that is done
 abbrev pub run_text : Run → List ℕ
-run_text run = []
+run_text Nothing = []
+run_text (Replay replayed) = differ_line replayed.differs
 
 -- what the report gets where a run ended so: the text for the run where it is done, and else the line of its status
 abbrev pub report_of : Ended → List ℕ
@@ -45,15 +52,15 @@ pub record Told (text : List ℕ) (before after : Telling) : Type 0 where
   pub nothing : text ≡ [] → after ≡ before
   pub later : before.faults ≤ after.faults
 
--- the report failed when it had got a front of a text that is not empty, and the run ends as a write fault, whose line, or a
--- front of it, follows
+-- the report failed when it had got a front of a text that is not empty, and the run ends as a write fault, whose line was then
+-- tried on the same object
 pub record ReportFailed (text : List ℕ) (ended : Ended) (before after : Telling) : Type 0 where
   pub some : text ≢ []
-  pub fault : HasRisen before.faults after.faults
   pub write_fault : ended ≡ record { status = WriteFault; run = Nothing }
-  pub between : Option (List ℕ)
-  pub front : WroteFront before.written text between
-  pub line : WroteFront between (status_line WriteFault) after.written
+  pub between : Telling
+  pub fault : HasRisen before.faults between.faults
+  pub front : WroteFront before.written text between.written
+  pub line : Told (status_line WriteFault) between after
 
 -- the report got its text, and the program ends as its run did
 pub record ReportMade (text : List ℕ) (ran ended : Ended) (before after : Telling) : Type 0 where

@@ -3,11 +3,11 @@
 ghost use Rattle.std.specs.Prelude.{◌≡◌, ◌≤◌, option_map, IfSome};
 ghost use Rattle.line_text.specs.Number.{number_in};
 ghost use Rattle.discard.specs.Words.{texts};
-ghost use Rattle.discard.specs.Commands.{order_of, replay_order, tile_order, side_of};
+ghost use Rattle.discard.specs.Commands.{order_of, replay_order, tile_order, side_of, number_or};
 ghost use Rattle.discard.specs.Orders.{order_value, IsSide, CanBeDone};
 
 use crate::words::{FewWords, option_value, words_given};
-use line_text::read_number;
+use line_text::{MOST_LIMIT, read_number};
 use replay_run::ReplayCfg;
 use tile_source::{LAST_TILE, MOST_ZOOM, Tile};
 
@@ -23,6 +23,15 @@ pub(crate) enum Order<'a> {
         side: u32,
     },
 }
+
+/// The name of the option for the manager's limit.
+const LIMIT: &str = "limit";
+
+/// The name of the option for the number of blocks that the pool keeps.
+const KEEP: &str = "keep";
+
+/// How many blocks the pool keeps at most.
+const MOST_KEPT: u64 = 256;
 
 /// The name of the option for a tile's side.
 const SIDE: &str = "side";
@@ -50,9 +59,32 @@ fn replay_order(words: &[String]) -> Option<Order<'_>>
     ensures value { option_map order_value result ≡ replay_order (texts words.now) }
     ensures lawful { IfSome result CanBeDone }
 {
-    match words_given(&[], words)?.positional {
-        FewWords::Zero => Some(Order::Replay(ReplayCfg::default())),
-        _ => None,
+    let names = [LIMIT, KEEP];
+    let given = words_given(&names, words)?;
+    let FewWords::Zero = given.positional else {
+        return None;
+    };
+    let defaults = ReplayCfg::default();
+    let limit = option_value(&names, given, LIMIT);
+    let keep = option_value(&names, given, KEEP);
+    let limit = number_or(limit, MOST_LIMIT, defaults.limit)?;
+    let keep = number_or(keep, MOST_KEPT, u64::from(defaults.keep))?;
+    Some(Order::Replay(ReplayCfg {
+        limit,
+        keep: keep as u32,
+        ..defaults
+    }))
+}
+
+/// The number from 0 to `most` that the value of an option is, or the default where it has none.
+fn number_or(value: Option<&str>, most: u64, default: u64) -> Option<u64>
+    requires { default ≤ most }
+    ensures value { result ≡ number_or 0 most default (option_map (λ word. word.now) value.entry) }
+    ensures within { IfSome result (λ n. n ≤ most) }
+{
+    match value {
+        None => Some(default),
+        Some(word) => read_number(word.as_bytes(), 0, most),
     }
 }
 

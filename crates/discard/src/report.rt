@@ -1,12 +1,75 @@
-ghost use Rattle.std.specs.Prelude.{◌≡◌, ◌≤◌, length};
-ghost use Rattle.discard.specs.Report.{status_line, telling, Told};
+ghost use Rattle.std.specs.Prelude.{◌≡◌, ◌≢◌, ◌≤◌, ◌↔◌, ◌++◌, codes, decimal, length};
+ghost use Rattle.discard.specs.Report.{status_line, run_text, telling, Told, Reports};
 
+use crate::top::{Ended, Run};
 use arrayvec::ArrayString;
 use discard_io::{Sink, Status, write_all};
 use itoa::Buffer;
 
 /// Room for the longest line of a status.
 const ROOM: usize = 64;
+
+/// Makes the report of a run, and is how the program ends: as the run did, or as a write fault where the run is done and
+/// the report fails. It takes no memory.
+pub(crate) fn reported<E: Sink>(report: &mut E, ran: Ended) -> Ended
+    ensures reports { Reports ran result
+        (telling (E.written report.old) (E.faults report.old))
+        (telling (E.written report.new) (E.faults report.new)) }
+    ensures usage { (result.status ≡ Status.Usage) ↔ (ran.status ≡ Status.Usage) }
+{
+    let status = ran.status;
+    match status {
+        Status::Done => reported_done(report, ran),
+        _ => {
+            tell(report, status);
+            ran
+        }
+    }
+}
+
+/// Makes the report of a run that is done.
+fn reported_done<E: Sink>(report: &mut E, ran: Ended) -> Ended
+    requires { ran.status ≡ Status.Done }
+    ensures reports { Reports ran result
+        (telling (E.written report.old) (E.faults report.old))
+        (telling (E.written report.new) (E.faults report.new)) }
+    ensures usage { result.status ≢ Status.Usage }
+{
+    let line = run_line(&ran.run);
+    match write_all(report, line.as_str().as_bytes()) {
+        Ok(()) => ran,
+        Err(_) => {
+            tell(report, Status::WriteFault);
+            Ended {
+                status: Status::WriteFault,
+                run: Run::Nothing,
+            }
+        }
+    }
+}
+
+/// The text that the report gets for a run that is done.
+fn run_line(run: &Run) -> ArrayString<ROOM>
+    ensures { result.bytes ≡ run_text run.now }
+{
+    match run {
+        Run::Nothing => line(""),
+        Run::Replay(replayed) => match &replayed.differs {
+            None => line(""),
+            Some(differ) => differ_line(differ.place),
+        },
+    }
+}
+
+fn differ_line(place: u64) -> ArrayString<ROOM>
+    ensures { result.bytes ≡ codes "discard: line " ++ decimal place ++ codes " differs\n" }
+{
+    let mut digits = Buffer::new();
+    let mut line = line("discard: line ");
+    line.push_str(digits.format(place));
+    line.push_str(" differs\n");
+    line
+}
 
 /// Writes the line of a status on the report, and nothing for Done. It takes no memory.
 pub(crate) fn tell<E: Sink>(report: &mut E, status: Status)

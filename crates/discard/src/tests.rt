@@ -1,9 +1,12 @@
+use crate::report::reported;
 use crate::top::{Ended, Run, discard};
 use discard_io::{CountClock, MemFiles, MemSink, MemSource, OpenGate, Status};
+use replay_run::{Differ, Replayed};
 use std::alloc::Global;
 use std::sync::Wait;
 use std::test::Fail;
 use std::thread::Threads;
+use units::Bytes;
 
 /// What a run is handed, all in memory.
 #[derive(Drop)]
@@ -61,11 +64,12 @@ fn run<H: Threads + Wait + Sync>(
 fn replays<H: Threads + Wait + Sync>(
     rt: &H,
     alloc: Global,
+    words: &str,
     script: &str,
     replies: &str,
 ) -> Result<bool, Fail> {
     let mut devices = Devices::new(alloc, script, b"")?;
-    let ended = run(rt, alloc, "replay", &mut devices)?;
+    let ended = run(rt, alloc, words, &mut devices)?;
     Ok(
         ended.status == Status::Done
             && matches!(ended.run, Run::Replay(_))
@@ -122,8 +126,51 @@ fn is_refused<H: Threads + Wait + Sync>(
 #[test]
 fn replays_hand_on_what_they_answered(rt: HostRuntime) -> Result<(), Fail> {
     let alloc = rt.alloc();
-    assert!(rt; replays(&rt, alloc, "", "")?);
-    assert!(rt; replays(&rt, alloc, "grant 1 1 1\ntry 1 9", "segment 1\nused 9\n")?);
+    assert!(rt; replays(&rt, alloc, "replay", "", "")?);
+    let script = "grant 1 1 1\ntry 1 9";
+    assert!(rt;
+        replays(
+            &rt,
+            alloc,
+            "replay --limit=0 --keep 256",
+            script,
+            "segment 1\nused 9\n"
+        )?
+    );
+    Ok(())
+}
+
+/// How a run ends and what is on the report, where two runs of its script differ at line 7 and the calls of the report with
+/// these numbers fail.
+fn differing(alloc: Global, fails: &[u64]) -> Result<(Status, MemSink), Fail> {
+    let mut report = MemSink::new(alloc, 64, 64, fails)?;
+    let differ = Differ {
+        place: 7,
+        real: Bytes::from_vec(Vec::new(alloc)),
+        plain: Bytes::from_vec(Vec::new(alloc)),
+    };
+    let replayed = Replayed {
+        status: Status::Done,
+        differs: Some(differ),
+    };
+    let ran = Ended {
+        status: Status::Done,
+        run: Run::Replay(replayed),
+    };
+    let ended = reported(&mut report, ran);
+    Ok((ended.status, report))
+}
+
+#[test]
+fn runs_that_differ_are_told(rt: HostRuntime) -> Result<(), Fail> {
+    let (status, report) = differing(rt.alloc(), &[])?;
+    assert!(rt;
+        status == Status::Done && report.written() == b"discard: line 7 differs\n".as_slice()
+    );
+    let (status, report) = differing(rt.alloc(), &[1])?;
+    assert!(rt;
+        status == Status::WriteFault && report.written() == b"discard: write fault\n".as_slice()
+    );
     Ok(())
 }
 
@@ -147,8 +194,10 @@ fn other_words_are_usage(rt: HostRuntime) -> Result<(), Fail> {
         "",
         "replay x",
         "replay --limit -4",
-        "replay --limit 04",
-        "replay --limit 4 --limit 5",
+        "replay --limit 1048577",
+        "replay --keep 257",
+        "replay --keep 4 --keep=4",
+        "replay --standard 64",
         "tile a.pgm 0 0",
         "tile a.pgm 0 0 0 --side 64 --side 64",
         "serve a.pgm --side 100",

@@ -5,7 +5,7 @@ ghost use Rattle.discard.specs.Report.{telling};
 ghost use Rattle.discard.specs.Top.{outside, Runs, ProgramEnds, handed_on};
 
 use crate::orders::{Order, order_of};
-use crate::report::tell;
+use crate::report::reported;
 use crate::tile_run::write_tile;
 use discard_io::{Clock, Files, Gate, Sink, Source, Status};
 use replay_run::{Replayed, replay};
@@ -31,7 +31,9 @@ pub struct Ended {
 
 /// A run of the program, by its words, which don't hold the program's name.
 ///
-/// `replay` reads a script from `input` to its end, runs it, and writes the reply to each command on `out`.
+/// `replay` reads a script from `input` to its end, runs it, and writes the reply to each command on `out`. With
+/// `--limit` the manager grants at most 0 to 1,048,576 pages, and 1,048,576 without it; with `--keep` the pool keeps 0 to
+/// 256 blocks, and 16 without it. Where two runs of the script differ, `report` gets the line of the first such command.
 /// `tile FILE Z X Y` reads the image in a file, and writes one of its tiles on `out`, with a head of its own. With
 /// `--side` the tile has 64, 128 or 256 pixels a side, and 256 without it. All that is written on `out` is made before
 /// the first byte is written, so a run that is out of memory has written nothing there.
@@ -66,9 +68,8 @@ pub fn discard<
     // Usage comes exactly for words that are not lawful.
     ensures usage { (result.status ≡ Status.Usage) ↔ (order_of (texts words.now) ≡ None) }
 {
-    let ended = run_words(alloc, words, input, out, files);
-    tell(report, ended.status);
-    ended
+    let ran = run_words(alloc, words, input, out, files);
+    reported(report, ran)
 }
 
 /// A run without its report.

@@ -1,8 +1,13 @@
 pub mod Keyed
-pub mod Best
 pub mod Work
 pub mod Placed
 pub mod Steps
 pub mod Gained
 pub mod Turned
 pub mod Granted
+pub mod Firsts
+pub mod Fronts
+pub mod Slotted
+pub mod Held
+pub mod Tried
+pub mod Ordered

@@ -1,9 +1,8 @@
 -- What one turn of a reduction does.
-use Rattle.std.proofs.Common.{◌≡◌, ◌≢◌, ℕ, ◌+◌, ◌*◌, ◌<◌, ◌≤◌, ◌==◌, Bool, true, false, not, cond, List, [], ◌∷◌, length, get_or, set, map, filter, sum_by, Option, Some, refl, sym, ap, ◌∙◌, arith}
+use Rattle.std.proofs.Common.{◌≡◌, ◌≢◌, ℕ, ◌+◌, ◌*◌, ◌<◌, ◌≤◌, ◌==◌, true, false, not, cond, List, [], ◌∷◌, length, get_or, set, map, filter, sum_by, Option, Some, refl, sym, ap, ◌∙◌, arith}
 use Rattle.std.specs.List.{remove}
 use Rattle.std.proofs.lemmas.List.{get_or_read}
 use Rattle.std.proofs.lemmas.List.Edits.{length-remove}
-use Rattle.std.proofs.lemmas.List.Elements.{All-filter, All-map, All-weaker}
 use Rattle.std.proofs.lemmas.List.Sums.{sum_by-cons, sum_by-set, sum_by-remove, sum-map}
 use Rattle.units.specs.declared.TheConstants.{PAGE}
 use Rattle.segment.specs.Tries.{IsTimely, known_use}
@@ -12,7 +11,7 @@ use Rattle.machine.specs.Reduction.{Candidate, least}
 use Rattle.lru_reduce.specs.Wards.{AreLive, number_of, candidate_of, candidates_of, total_pages, noted_at, used_after}
 use Rattle.lru_reduce.specs.Measure.{work_of}
 use Rattle.lru_reduce.specs.Turns.{WinsAt, LosesAt, stood_as}
-use Rattle.lru_reduce.proofs.Keyed.{same_yes, same_no, remove-but, set-changed, remove-set, IsRisingBy-filter, IsRisingBy-map}
+use Rattle.lru_reduce.proofs.Keyed.{same_yes, same_no, remove-but, set-changed, remove-set}
 use Rattle.lru_reduce.proofs.Work.{known_by, less_left}
 
 -- the pages of the segments, as a sum over the wardens
@@ -24,29 +23,14 @@ by_wardens (w ∷ sides) =
 pub pages_sum : (sides : List Warded) → total_pages sides ≡ sum_by (λ (w : Warded). w.pages) sides
 pages_sum sides = sum-map (λ (c : Candidate). c.pages) (candidates_of sides) ∙ by_wardens sides
 
--- without one of them
-pub AreLive-remove : (sides : List Warded) (place : ℕ) (new : Warded) → AreLive sides → place < length sides → AreLive (remove (set sides place new) place)
-AreLive-remove sides place new ok inside =
-    let first : Warded = get_or sides place new in
-    rw (remove-set sides place new, remove-but number_of sides place new ok.rising inside) record {
-      rising = IsRisingBy-filter number_of (λ w. not (w.id == first.id)) sides ok.rising;
-      free = All-filter (λ w. not (w.id == first.id)) (λ w. w.taken ≡ false) sides ok.free;
-    }
-
 -- a try that is noted
 abbrev pub noted : ℕ → ℕ → Warded → Warded
 noted now word w = record w { tries = (now, word) ∷ w.tries }
 
-noted_at-id : (now word id : ℕ) (w : Warded) → number_of (noted_at now word id w) ≡ number_of w
+pub noted_at-id : (now word id : ℕ) (w : Warded) → number_of (noted_at now word id w) ≡ number_of w
 noted_at-id now word id w = elim (w.id == id) as (λ b. number_of (cond b (noted now word w) w) ≡ number_of w) [
   | true ↦ refl
   | false ↦ refl
-]
-
-noted_at-taken : (now word id : ℕ) (w : Warded) → w.taken ≡ false → (noted_at now word id w).taken ≡ false
-noted_at-taken now word id w free = elim (w.id == id) as (λ (b : Bool). (cond b (noted now word w) w).taken ≡ false) [
-  | true ↦ free
-  | false ↦ free
 ]
 
 -- after a try that lost
@@ -57,13 +41,6 @@ set_is now place word sides old new ok inside here changed =
     let e : set sides place new ≡ set sides place (noted now word (get_or sides place old)) = ap (λ w. set sides place w) (changed ∙ ap (λ (w : Warded). noted now word w) here) in
     e ∙ whole ∙ ap (λ (w : Warded). map (noted_at now word w.id) sides) (sym here)
 
-pub AreLive-set : (now place word : ℕ) (sides : List Warded) (old new : Warded) → AreLive sides → place < length sides → old ≡ get_or sides place old → new ≡ noted now word old → AreLive (set sides place new)
-AreLive-set now place word sides old new ok inside here changed =
-    rw (set_is now place word sides old new ok inside here changed) record {
-      rising = IsRisingBy-map number_of (noted_at now word old.id) (noted_at-id now word old.id) sides ok.rising;
-      free = All-map (λ (w : Warded). w.taken ≡ false) (noted_at now word old.id) sides (All-weaker (λ (w : Warded). w.taken ≡ false) (λ (w : Warded). (noted_at now word old.id w).taken ≡ false) (noted_at-taken now word old.id) sides ok.free);
-    }
-
 twice : (n : ℕ) → 2 * n ≢ 1
 twice n e = absurd (omega (arith, e))
 
@@ -72,10 +49,10 @@ known_some : (tries : List (ℕ × ℕ)) → 1 ≤ known_by tries → known_use 
 known_some [] least = absurd (omega (arith, least))
 known_some (t ∷ tries) least = refl
 
-pub won_at : (now place word spare : ℕ) (sides moved : List Warded) (old new : Warded) (block : List ℕ) → AreLive sides → place < length sides → old ≡ get_or sides place old
+pub won_at : (now place word : ℕ) (sides moved : List Warded) (old new : Warded) (block : List ℕ) → AreLive sides → place < length sides → old ≡ get_or sides place old
     → word ≡ 2 * known_by old.tries → length block ≡ PAGE * old.pages → IsTimely word old.tries → moved ≡ remove (set sides place new) place
-    → WinsAt now place old.id old.pages (known_by old.tries) block (record { sides = sides; spare = spare }) (record { sides = moved; spare = spare })
-won_at now place word spare sides moved old new block ok inside here same sized timely left =
+    → WinsAt now place old.id old.pages (known_by old.tries) block sides moved
+won_at now place word sides moved old new block ok inside here same sized timely left =
     let known = known_by old.tries in
     let facts = timely (λ one. twice known (sym same ∙ one)) in
     let gone : moved ≡ remove sides place = left ∙ remove-set sides place new in
@@ -93,16 +70,15 @@ won_at now place word spare sides moved old new block ok inside here same sized 
       moment = let high = facts.0.1 in (low, omega (arith, same, high));
       sized = sized;
       sides = rw won (gone ∙ remove-but number_of sides place old ok.rising inside ∙ ap (λ (w : Warded). filter (λ (v : Warded). not (v.id == w.id)) sides) first);
-      room = refl;
       fewer = rw gone fewer;
       left = rw (gone, pages_sum (remove sides place), pages_sum sides) (ap (λ n. sum_by (λ (w : Warded). w.pages) (remove sides place) + n) (sym paid) ∙ pages);
       less = rw gone (omega (arith, works, some));
     }
 
-pub lost_at : (now place word known spare : ℕ) (sides : List Warded) (old new : Warded) → AreLive sides → place < length sides → old ≡ get_or sides place old
+pub lost_at : (now place word known : ℕ) (sides : List Warded) (old new : Warded) → AreLive sides → place < length sides → old ≡ get_or sides place old
     → word ≢ 2 * known_by old.tries → IsTimely word old.tries → new ≡ noted now word old → known_use new.tries ≡ Some known
-    → LosesAt now place known (record { sides = sides; spare = spare }) (record { sides = set sides place new; spare = spare })
-lost_at now place word known spare sides old new ok inside here other timely changed told =
+    → LosesAt now place known sides (set sides place new)
+lost_at now place word known sides old new ok inside here other timely changed told =
     let lost : (word == 2 * known_by old.tries) ≡ false = same_no word (2 * known_by old.tries) other in
     let works = sum_by-set (λ (w : Warded). work_of now w) sides place new old inside in
     let was : work_of now (get_or sides place old) ≡ work_of now old = ap (λ (w : Warded). work_of now w) (sym here) in
@@ -114,6 +90,5 @@ lost_at now place word known spare sides old new ok inside here other timely cha
       renewed = let e : Some (used_after now word) ≡ Some known = sym (ap (λ (w : Warded). known_use w.tries) changed) ∙ told in cc;
       other = other;
       sides = rw lost (set_is now place word sides old new ok inside here changed);
-      room = refl;
       less = λ before. let falls = less_left now word old.tries before other timely in omega (arith, works, was, is, falls);
     }

@@ -85,8 +85,8 @@ due_is limit now place (w ∷ sides) e turn stood = record {
 }
 
 pub going_lost : (limit now place known granted : ℕ) (start : Wards) (book : Log) (pool : Stock) (wards new : Wards) (log : Log) (filled : Stock)
-    → Going limit now start book pool granted wards log filled → IsDue limit now place wards.sides → LosesAt now place known wards new → Going limit now start book pool granted new log filled
-going_lost limit now place known granted start book pool wards new log filled going turn lost =
+    → Going limit now start book pool granted wards log filled → IsDue limit now place wards.sides → LosesAt now place known wards.sides new.sides → new.spare ≡ wards.spare → Going limit now start book pool granted new log filled
+going_lost limit now place known granted start book pool wards new log filled going turn lost room =
     let due = due_is limit now place wards.sides lost.at turn lost.stood in
     let no : (lost.word == 2 * use_of lost.at) ≡ false = same_no lost.word (2 * use_of lost.at) lost.other in
     let none = purged-lost lost.at lost.word going.found no in
@@ -103,17 +103,17 @@ going_lost limit now place known granted start book pool wards new log filled go
       total = going.total ∙ sym (ap (λ (ws : List Warded). total_pages ws) kept ∙ total-noted now lost.word lost.at.id wards.sides);
       spare = rw long going.spare;
       spent = rw long going.spent;
-      room = lost.room ∙ going.room;
+      room = room ∙ going.room;
     }
 
 pages_back : (pages : ℕ) (block : List ℕ) → length block ≡ PAGE * pages → page_count block ≡ pages
 pages_back pages block sized = omega (arith, sized)
 
 pub going_won : (limit now place granted id pages known left : ℕ) (block : List ℕ) (start : Wards) (book : Log) (pool : Stock) (wards new : Wards) (log after : Log) (filled fuller : Stock)
-    → Going limit now start book pool granted wards log filled → IsDue limit now place wards.sides → WinsAt now place id pages known block wards new
+    → Going limit now start book pool granted wards log filled → IsDue limit now place wards.sides → WinsAt now place id pages known block wards.sides new.sides → new.spare ≡ wards.spare
     → left + pages ≡ granted → after.entries ≡ log.entries ++ Purge id known ∷ [] → after.spare + 1 ≡ log.spare → live after.entries ≡ live_after (live log.entries) (Purge id known) → fuller ≡ after_put (page_count block) filled
     → Going limit now start book pool left new after fuller
-going_won limit now place granted id pages known left block start book pool wards new log after filled fuller going turn won paid entries spare lives put =
+going_won limit now place granted id pages known left block start book pool wards new log after filled fuller going turn won same paid entries spare lives put =
     let e = stood_as id pages known in
     let word : ℕ = 2 * known in
     let due = due_is limit now place wards.sides e turn won.stood in
@@ -138,7 +138,7 @@ going_won limit now place granted id pages known left block start book pool ward
       total = omega (arith, paid, total, sum);
       spare = omega (arith, spare, room, fewer);
       spent = omega (arith, spare, spent, fewer);
-      room = won.room ∙ going.room;
+      room = same ∙ going.room;
     }
 
 there_at : (id pages known place : ℕ) (sides : List Warded) → place < length sides → ((d : Warded) → candidate_of (get_or sides place d) ≡ stood_as id pages known) → (id == (get_or (segments_of sides) place (id, pages)).0) ≡ true
@@ -150,7 +150,7 @@ there_at id pages known place (w ∷ sides) inside stood =
 
 -- the purge fits the book
 pub fits_purge : (limit now place granted id pages known : ℕ) (block : List ℕ) (start : Wards) (book : Log) (pool : Stock) (wards new : Wards) (log : Log) (filled : Stock)
-    → Going limit now start book pool granted wards log filled → place < length wards.sides → WinsAt now place id pages known block wards new → fits_after log.entries (Purge id known) ≡ true
+    → Going limit now start book pool granted wards log filled → place < length wards.sides → WinsAt now place id pages known block wards.sides new.sides → fits_after log.entries (Purge id known) ≡ true
 fits_purge limit now place granted id pages known block start book pool wards new log filled going inside won =
     let there : has_number (segments_of wards.sides) id ≡ true =
     list_any_at (λ (s : ℕ × ℕ). id == s.0) (segments_of wards.sides) place (id, pages) (rw (length-map wards.sides segment_of) inside)
@@ -159,7 +159,7 @@ fits_purge limit now place granted id pages known block start book pool wards ne
     rw (going.live, there, moment) refl
 
 -- less work is left where a try of the least lost
-pub less_where_lost : (limit now place known : ℕ) (wards new : Wards) → IsDue limit now place wards.sides → LosesAt now place known wards new → work now new.sides < work now wards.sides
+pub less_where_lost : (limit now place known : ℕ) (wards new : Wards) → IsDue limit now place wards.sides → LosesAt now place known wards.sides new.sides → work now new.sides < work now wards.sides
 less_where_lost limit now place known wards new turn lost = lost.less (due_is limit now place wards.sides lost.at turn lost.stood).early
 
 -- The end

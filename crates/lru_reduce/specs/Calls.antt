@@ -1,6 +1,6 @@
 -- What the calls of an order answer, and what they change.
 use Rattle.std.specs.Prelude.{◌≡◌, ◌≢◌, ℕ, ◌+◌, ◌*◌, nat_lt, Bool, true, false, if◌then◌else◌, List, [], ◌∷◌, length, Option, Some, None, slice_index_or}
-use Rattle.std.specs.List.{position_or_len, Contains}
+use Rattle.std.specs.List.{Contains}
 use Rattle.units.specs.declared.TheConstants.{PAGE}
 use Rattle.units.specs.Moment.{IsMoment}
 use Rattle.machine.specs.Reduction.{Candidate, use_of, least}
@@ -15,9 +15,12 @@ abbrev pub placed : Warded → List Warded → List Warded
 placed w [] = w ∷ []
 placed w (v ∷ more) = if nat_lt w.id v.id then w ∷ v ∷ more else v ∷ placed w more
 
--- the place of the first greater number, or the end
-abbrev pub place_above : ℕ → List Warded → ℕ
-place_above id sides = position_or_len (λ (w : Warded). nat_lt id w.id) sides
+-- the warden of this number was taken out, as it stood
+pub record TakesNumber (id : ℕ) (w : Warded) (old new : List Warded) : Type 0 where
+  pub stood : Contains old w
+  pub number : w.id ≡ id
+  pub free : w.taken ≡ false
+  pub sides : new ≡ without_ward id old
 
 -- the least of the segments stands at this place
 abbrev pub IsLeastAt : ℕ → List Warded → Type 0

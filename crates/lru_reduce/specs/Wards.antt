@@ -4,10 +4,17 @@ use Rattle.segment.specs.Tries.{known_use}
 use Rattle.segment.specs.Warded.{Warded}
 use Rattle.machine.specs.Reduction.{Candidate, use_of}
 
--- the live wardens, by rising number, and how many more the order can take in without memory
+-- the live wardens, by rising number; how many more the order can take in without memory; and how many entries, live and
+-- dead, its heap has
 pub record Wards : Type 0 where
   pub sides : List Warded
   pub spare : ℕ
+  pub entries : ℕ
+
+-- the live wardens, by rising number, and how many there is room for
+pub record Tabled : Type 0 where
+  pub sides : List Warded
+  pub room : ℕ
 
 -- the keys rise, so each stands once
 abbrev pub IsRisingBy : {X : Type 0} → (X → ℕ) → List X → Type 0

@@ -1,9 +1,12 @@
 #![tactic(auto)]
 //! The live segments of a manager in the order of their known use, and their reduction to a limit of pages.
 
-mod least;
+mod front;
+mod keys;
 mod order;
 mod reduction;
+mod spot;
+mod table;
 #[cfg(test)]
 mod tests;
 

@@ -1,46 +1,49 @@
-ghost use Rattle.std.specs.Prelude.{◌≡◌, ◌≤◌, ◌<◌, false, [], Some, length, OnOk, OnErr, IsOk, IsOkAnd, IfOk, IfErr, option_map, is_some, IfSome};
+ghost use Rattle.std.specs.Prelude.{◌≡◌, ◌+◌, ◌*◌, ◌≤◌, ◌<◌, true, false, [], Some, length, OnOk, OnErr, IsOk, IsOkAnd, IfOk, IfErr, option_map, is_some, IfSome, IfNone};
 ghost use Rattle.units.specs.Moment.{IsMoment};
 ghost use Rattle.discard_book.specs.Live.{has_number};
 ghost use Rattle.machine.specs.Reduction.{least, use_of};
 ghost use Rattle.lru_reduce.specs.Wards.{candidates_of, segments_of, IsNew};
 ghost use Rattle.lru_reduce.specs.Calls.{told, AddsSide, TakesLeast, Forgets, IsKnownUse, TriesOne};
-ghost use Rattle.lru_reduce.specs.Turns.{WinsAt, LosesAt};
+ghost use Rattle.lru_reduce.specs.Turns.{Wins, Loses};
 
-use crate::least::{least_at, place_after, place_of, use_of};
-use block_pool::Block;
+use crate::front::{refill, renew, settle};
+use crate::keys::Keys;
+use crate::table::{Table, Won};
 use segment::{Purge, WardenSide};
 use std::alloc::Global;
 use std::marker::Model;
 use units::NoMemory;
 
 /// The live wardens of a manager. Contracts see them by rising number, and its spare places: how
-/// many more it can take in without memory.
+/// many more it can take in without memory. Their known uses stand in a heap whose entries die late:
+/// the entry of a known use that is no more stays until it comes to the front.
 #[derive(Drop)]
 pub struct Order {
-    /// By rising number.
-    pub(crate) sides: Vec<WardenSide>,
+    // In each of the two there are two places for each warden and for each spare place. So what is
+    // dead leaves once for as many changes as there are wardens, and takes no memory.
+    table: Table,
+    keys: Keys,
     spare: u64,
 }
 
 impl Model for Order {
-    ghost use Rattle.std.specs.Prelude.{◌+◌, ◌≤◌, vec_len, vec_capacity};
+    ghost use Rattle.std.specs.Prelude.{◌*◌, ◌+◌, ◌^◌, ◌<◌, ◌≤◌, length};
     ghost use Rattle.lru_reduce.specs.Wards.{Wards, AreLive};
+    ghost use Rattle.lru_reduce.specs.Entries.{IsKeyed};
 
     ghost Value = { Wards };
 
-    ghost view = { λ o. record { sides = o.sides.items; spare = o.spare } };
+    ghost view = { λ o. record {
+      sides = o.table.sides;
+      spare = o.spare;
+      entries = length o.keys.keys;
+    } };
 
-    ghost invariant = { λ o. AreLive o.sides.items
-        × (vec_len o.sides + o.spare ≤ vec_capacity o.sides) };
-}
-
-/// A segment that was purged, as it stood, with its block.
-#[derive(Drop)]
-pub(crate) struct Won {
-    pub(crate) id: u64,
-    pub(crate) pages: u32,
-    pub(crate) known: u64,
-    pub(crate) block: Block,
+    ghost invariant = { λ o. AreLive o.table.sides
+        × IsKeyed o.table.sides o.keys.keys
+        × (2 * (length o.table.sides + o.spare) ≤ o.table.room)
+        × (2 * (length o.table.sides + o.spare) ≤ o.keys.room)
+        × (2 * (length o.table.sides + o.spare) < 2 ^ 64) };
 }
 
 impl Order {
@@ -49,26 +52,56 @@ impl Order {
         ensures { IsOkAnd result (λ order. (order.sides ≡ []) × (order.spare ≡ 0)) }
     {
         Ok(Order {
-            sides: Vec::new(alloc),
+            table: Table::new(alloc),
+            keys: Keys::new(alloc),
             spare: 0,
         })
     }
 
+    /// The entries of the heap: one for each live warden, and those that are dead.
+    pub fn entries(&self) -> u64
+        ensures { result ≡ self.now.entries }
+    {
+        self.keys.len() as u64
+    }
+
     /// Makes sure of at least `n` spare places, and never takes one away. Its wardens stay. After
-    /// `NoMemory` the order is as before, which comes only where fewer than `n` places were spare.
+    /// `NoMemory` they and the spare places are as before, which comes only where fewer than `n`
+    /// places were spare. First it drops all dead entries where there are more dead ones than live
+    /// ones, so after Ok there are at most twice as many entries as wardens.
     pub fn reserve(&mut self, _alloc: Global, n: u64) -> Result<(), NoMemory>
         ensures ok { OnOk result (n ≤ self.new.spare) }
         ensures kept { self.old.spare ≤ self.new.spare }
         ensures same { self.new.sides ≡ self.old.sides }
-        ensures err { OnErr result (self.new ≡ self.old) }
+        ensures err { OnErr result (self.new.spare ≡ self.old.spare) }
         ensures ready { n ≤ self.old.spare → IsOk result }
+        ensures entries { self.new.entries ≤ 2 * length self.new.sides }
     {
+        self.drop_dead();
         if n <= self.spare {
             return Ok(());
         }
-        self.sides.reserve(n as usize)?;
-        self.spare = (self.sides.capacity() - self.sides.len()) as u64;
+        let Some(places) = twice(self.table.len(), n) else {
+            return Err(NoMemory);
+        };
+        self.table.reserve(places)?;
+        self.keys.reserve(places)?;
+        self.spare = n;
         Ok(())
+    }
+
+    /// Drops all dead entries where there are more dead ones than live ones.
+    fn drop_dead(&mut self)
+        ensures sides { self.new.sides ≡ self.old.sides }
+        ensures spare { self.new.spare ≡ self.old.spare }
+        ensures entries { self.new.entries ≤ 2 * length self.new.sides }
+    {
+        self.table.tidy();
+        let live = self.table.len();
+        let dead = self.keys.len().saturating_sub(live);
+        if dead > live {
+            refill(&self.table, &mut self.keys);
+        }
     }
 
     /// How many wardens more it can take in without memory.
@@ -85,11 +118,11 @@ impl Order {
         requires new { IsNew side.id self.old.sides }
         ensures { AddsSide side self.old self.new }
     {
-        let place = place_after(&self.sides, side.id());
+        let id = side.id();
+        let known = side.known().unwrap_or(0);
+        self.table.add(side);
         self.spare -= 1;
-        let Ok(()) = self.sides.insert(place, side) else {
-            unreachable!()
-        };
+        renew(&self.table, &mut self.keys, id, known);
     }
 
     /// The number and the known use of the least, by known use and then by number, where a known use
@@ -97,26 +130,27 @@ impl Order {
     pub fn least(&self) -> Option<(u64, u64)>
         ensures { result ≡ option_map told (least (candidates_of self.now.sides)) }
     {
-        let place = least_at(&self.sides)?;
-        let side = &self.sides[place];
-        Some((side.id(), use_of(side)))
+        let (known, id) = self.keys.first()?;
+        Some((id, known))
     }
 
     /// The known use of the least.
     pub(crate) fn least_use(&self) -> Option<u64>
         ensures { result ≡ option_map use_of (least (candidates_of self.now.sides)) }
     {
-        let place = least_at(&self.sides)?;
-        Some(use_of(&self.sides[place]))
+        let (known, _) = self.keys.first()?;
+        Some(known)
     }
 
     /// Takes the least out, and its place is spare then. None exactly where nothing is live.
     pub fn take_least(&mut self) -> Option<WardenSide>
         ensures { TakesLeast result self.old self.new }
     {
-        let place = least_at(&self.sides)?;
+        let (_, id) = self.keys.first()?;
+        let side = self.table.take(id)?;
+        settle(&self.table, &mut self.keys);
         self.spare += 1;
-        Some(self.sides.remove(place))
+        Some(side)
     }
 
     /// Takes a warden in again that was taken out, as `add` does.
@@ -133,13 +167,11 @@ impl Order {
     pub fn forget(&mut self, id: u64) -> bool
         ensures { Forgets id result self.old self.new }
     {
-        match place_of(&self.sides, id) {
-            Some(place) => {
-                self.sides.remove(place);
-                true
-            }
-            None => false,
-        }
+        let Some(_side) = self.table.take(id) else {
+            return false;
+        };
+        settle(&self.table, &mut self.keys);
+        true
     }
 
     /// The known use of a number, where one that is none counts as 0. None exactly where the number is
@@ -148,8 +180,7 @@ impl Order {
         ensures live { is_some result ≡ has_number (segments_of self.now.sides) id }
         ensures known { IfSome result (λ known. IsKnownUse id known self.now.sides) }
     {
-        let place = place_of(&self.sides, id)?;
-        Some(use_of(&self.sides[place]))
+        self.table.known(id)
     }
 
     /// One purge try of a number at a moment. None exactly where the number is not live. After Taken
@@ -158,8 +189,7 @@ impl Order {
         requires { IsMoment now }
         ensures { TriesOne id now result self.old self.new }
     {
-        let place = place_of(&self.sides, id)?;
-        match self.try_at(place, now) {
+        match self.try_number(id, now)? {
             Ok(Won { block, .. }) => Some(Purge::Taken(block)),
             Err(known) => Some(Purge::Used { known }),
         }
@@ -169,32 +199,54 @@ impl Order {
     pub(crate) fn live(&self) -> usize
         ensures { result ≡ length self.now.sides }
     {
-        self.sides.len()
+        self.table.len()
     }
 
-    /// One purge try of the warden at a place. Where it wins, the warden leaves.
-    pub(crate) fn try_at(&mut self, place: usize, now: u64) -> Result<Won, u64>
-        requires inside { place < length self.old.sides }
+    /// One purge try of a number at a moment. None exactly where the number is not live, and nothing
+    /// changed. Where it wins, the warden leaves; else it answers the known use.
+    pub(crate) fn try_number(&mut self, id: u64, now: u64) -> Option<Result<Won, u64>>
         requires moment { IsMoment now }
-        ensures won { IfOk result (λ w.
-            WinsAt now place w.id w.pages w.known w.block self.old self.new) }
-        ensures lost { IfErr result (λ known. LosesAt now place known self.old self.new) }
+        ensures won { IfSome result (λ r. IfOk r (λ w.
+            Wins id now w.pages w.known w.block self.old.sides self.new.sides)) }
+        ensures lost { IfSome result (λ r. IfErr r (λ known.
+            Loses id now known self.old.sides self.new.sides)) }
+        ensures live { is_some result ≡ has_number (segments_of self.old.sides) id }
+        ensures none { IfNone result (self.new ≡ self.old) }
+        ensures spare { self.new.spare ≡ self.old.spare }
     {
-        let side = &mut self.sides[place];
-        let id = side.id();
-        let pages = side.pages();
-        let known = use_of(side);
-        match side.try_purge(now) {
-            Purge::Taken(block) => {
-                self.sides.remove(place);
-                Ok(Won {
-                    id,
-                    pages,
-                    known,
-                    block,
-                })
+        let tried = self.table.try_number(id, now)?;
+        match tried {
+            Ok(won) => {
+                settle(&self.table, &mut self.keys);
+                Some(Ok(won))
             }
-            Purge::Used { known } => Err(known),
+            Err(known) => {
+                renew(&self.table, &mut self.keys, id, known);
+                Some(Err(known))
+            }
         }
     }
+
+    /// One purge try of a live number at a moment. Where it wins, the warden leaves; else it answers
+    /// the known use.
+    pub(crate) fn try_live(&mut self, id: u64, now: u64) -> Result<Won, u64>
+        requires live { has_number (segments_of self.old.sides) id ≡ true }
+        requires moment { IsMoment now }
+        ensures won { IfOk result (λ w.
+            Wins id now w.pages w.known w.block self.old.sides self.new.sides) }
+        ensures lost { IfErr result (λ known. Loses id now known self.old.sides self.new.sides) }
+        ensures spare { self.new.spare ≡ self.old.spare }
+    {
+        match self.try_number(id, now) {
+            Some(tried) => tried,
+            None => unreachable!(),
+        }
+    }
+}
+
+/// Twice the sum.
+fn twice(live: usize, n: u64) -> Option<usize>
+    ensures { IfSome result (λ places. places ≡ 2 * (live + n)) }
+{
+    live.checked_add(n as usize)?.checked_mul(2)
 }

@@ -3,11 +3,11 @@ ghost use Rattle.units.specs.Moment.{IsMoment};
 ghost use Rattle.machine.specs.Reduction.{has_ended};
 ghost use Rattle.discard_book.specs.Live.{live};
 ghost use Rattle.lru_reduce.specs.Wards.{candidates_of, segments_of, total_pages};
-ghost use Rattle.lru_reduce.specs.Turns.{IsDue};
+ghost use Rattle.lru_reduce.specs.Turns.{IsDueOn};
 ghost use Rattle.lru_reduce.specs.Reducing.{ReducesTo, TellsEnd};
 
-use crate::least::{least_at, use_of};
-use crate::order::{Order, Won};
+use crate::order::Order;
+use crate::table::Won;
 use block_pool::Pool;
 use discard_book::{Book, Entry};
 
@@ -24,21 +24,17 @@ pub struct Reduced {
 }
 
 impl Order {
-    /// The place of the least, where a reduction goes on.
-    fn due(&self, granted: u128, limit: u64, now: u64) -> Option<usize>
+    /// The number of the least, where a reduction goes on.
+    fn due(&self, granted: u128, limit: u64, now: u64) -> Option<u64>
         requires { granted ≡ total_pages self.now.sides }
-        ensures some { IfSome result (λ place. IsDue limit now place self.now.sides) }
+        ensures some { IfSome result (λ id. IsDueOn limit now id self.now.sides) }
         ensures none { IfNone result (has_ended limit now (candidates_of self.now.sides) ≡ true) }
     {
         if granted <= u128::from(limit) {
             return None;
         }
-        let place = least_at(&self.sides)?;
-        if use_of(&self.sides[place]) < now {
-            Some(place)
-        } else {
-            None
-        }
+        let (id, known) = self.least()?;
+        if known < now { Some(id) } else { None }
     }
 
     /// Reduces granted pages to a limit at a moment. While they are above the limit, and the least known
@@ -67,15 +63,14 @@ impl Order {
         ensures spent { book.new.spare + result.purges + 1 ≡ book.old.spare }
     {
         let before = self.live();
-        while let Some(place) = self.due(*granted, limit, now) {
+        while let Some(id) = self.due(*granted, limit, now) {
             if let Ok(
                 Won {
-                    id,
                     pages,
                     known,
                     block,
                 },
-            ) = self.try_at(place, now)
+            ) = self.try_live(id, now)
             {
                 *granted -= u128::from(pages);
                 book.add(Entry::Purge { id, known });

@@ -122,3 +122,42 @@ fn reductions_purge_the_least_used_first(rt: HostRuntime) -> Result<(), Fail> {
     assert!(rt; worked(rt.alloc(), &[4, 4, 3], &one_by_one)?);
     Ok(())
 }
+
+/// An order of segments whose use is not known, with the numbers from 1.
+fn unknown(alloc: Global, numbers: u64) -> Result<Order, Fail> {
+    let mut granted = Granted::new(alloc)?;
+    for _ in 0..numbers {
+        let _owner = granted.grant(alloc)?;
+    }
+    Ok(granted.order)
+}
+
+/// Whether an order has so many entries and this least one.
+fn has(order: &Order, entries: u64, least: Option<(u64, u64)>) -> bool {
+    order.entries() == entries && order.least() == least
+}
+
+/// Whether dead entries leave at the front, and where there are more of them than live ones.
+fn dies_late(alloc: Global) -> Result<bool, Fail> {
+    let mut three = unknown(alloc, 3)?;
+    let mut five = unknown(alloc, 5)?;
+    Ok(
+        three.forget(2)
+            && has(&three, 3, Some((1, 0)))
+            && three.forget(1)
+            && has(&three, 1, Some((3, 0)))
+            && five.forget(3)
+            && five.forget(4)
+            && five.forget(5)
+            && has(&five, 5, Some((1, 0)))
+            && five.reserve(alloc, 1).is_ok()
+            && has(&five, 2, Some((1, 0)))
+            && !five.forget(3),
+    )
+}
+
+#[test]
+fn dead_entries_leave_late(rt: HostRuntime) -> Result<(), Fail> {
+    assert!(rt; dies_late(rt.alloc())?);
+    Ok(())
+}

@@ -107,6 +107,17 @@ fn removes(alloc: Global) -> Result<bool, Fail> {
     )
 }
 
+/// Each of two clients loses its own segments, which were granted in turn.
+fn removes_each(alloc: Global) -> Result<bool, Fail> {
+    let mut state = State::new(alloc, 16384, 0)?;
+    for client in [1, 2, 1, 2] {
+        left(&mut state, alloc, client, 1, 1, 1)?;
+    }
+    let first = state.remove_client(1) == 2 && state.granted() == 2;
+    let again = state.remove_client(1) == 0 && state.granted() == 2;
+    Ok(first && again && state.remove_client(2) == 2 && state.granted() == 0)
+}
+
 /// A grant that is not below the limit has no room, and nothing is reduced where nothing was granted.
 fn enforces(alloc: Global) -> Result<bool, Fail> {
     let mut state = State::new(alloc, 1, 0)?;
@@ -129,6 +140,6 @@ fn reductions(rt: HostRuntime) -> Result<(), Fail> {
 
 #[test]
 fn segments_come_back(rt: HostRuntime) -> Result<(), Fail> {
-    assert!(rt; gives_back(rt.alloc())? && removes(rt.alloc())?);
+    assert!(rt; gives_back(rt.alloc())? && removes(rt.alloc())? && removes_each(rt.alloc())?);
     Ok(())
 }

@@ -19,8 +19,10 @@ use units::NoMemory;
 /// Only `new`, `grow` and `runs` take memory. No call but `runs` goes along all runs or spans: each
 /// is found by the pages where it begins and ends, and each free run by its length. A `search` looks
 /// at the latest run of each length below 256 and goes along the longer ones. `drop_segment` goes
-/// along the pages of its segment. A segment is found at once where the numbers of the segments rise
-/// by one in the order in which they came, by halves where they rise, and else by a walk.
+/// along the pages of its segment. A span tells where the row of its segment stood, and the row is looked
+/// for from there on. A `search` guesses the row by the first and the last number. From such a place it is
+/// found in steps that double and then by halves where the numbers of the segments rise in the order in
+/// which they came, and else by a walk.
 #[derive(Debug, Drop)]
 pub struct Heap {
     table: PageTable,
@@ -69,9 +71,10 @@ impl Heap {
             pages,
         };
         self.table.grow(alloc, segment, pages)?;
-        self.table.add_used(run);
+        let near = self.table.near(segment);
+        self.table.add_used(run, near);
         self.pages += pages;
-        Ok(Span { run })
+        Ok(Span { run, near })
     }
 
     /// Takes a free run of at least `pages` pages and at most `slack` more, uses its first `pages`
@@ -91,12 +94,13 @@ impl Heap {
         ensures partition { IsPartition self.new }
     {
         let run = self.table.pick(pages, pages + slack)?;
+        let near = self.table.near(run.segment);
         let front = run.front(pages);
-        self.table.take_free(run);
-        self.table.add_used(front);
-        self.table.add_rest(run, pages);
+        self.table.take_free(run, near);
+        self.table.add_used(front, near);
+        self.table.add_rest(run, pages, near);
         self.free_pages -= pages;
-        Some(Span { run: front })
+        Some(Span { run: front, near })
     }
 
     /// Cuts a used span in two, behind its first `front` pages.
@@ -109,12 +113,12 @@ impl Heap {
         ensures split { Splits self.old self.new span result.0 result.1 }
         ensures partition { IsPartition self.new }
     {
-        let whole = span.run;
-        self.table.take_used(whole);
+        let (whole, near) = (span.run, span.near);
+        self.table.take_used(whole, near);
         let (front, back) = (whole.front(front), whole.back(front));
-        self.table.add_used(front);
-        self.table.add_used(back);
-        (Span { run: front }, Span { run: back })
+        self.table.add_used(front, near);
+        self.table.add_used(back, near);
+        (Span { run: front, near }, Span { run: back, near })
     }
 
     /// Frees a used span. It is joined with the free runs directly before it and directly behind
@@ -126,15 +130,18 @@ impl Heap {
         ensures freed { Frees self.old self.new span }
         ensures partition { IsPartition self.new }
     {
-        let run = span.run;
-        let before = self.table.take_before(&run);
-        let behind = self.table.take_behind(&run);
-        self.table.take_used(run);
-        self.table.add_free(Run {
-            segment: run.segment,
-            first: run.first - before,
-            pages: before + run.pages + behind,
-        });
+        let (run, near) = (span.run, span.near);
+        let before = self.table.take_before(&run, near);
+        let behind = self.table.take_behind(&run, near);
+        self.table.take_used(run, near);
+        self.table.add_free(
+            Run {
+                segment: run.segment,
+                first: run.first - before,
+                pages: before + run.pages + behind,
+            },
+            near,
+        );
         self.free_pages += run.pages;
     }
 
@@ -148,9 +155,10 @@ impl Heap {
         ensures dropped { Drops self.old self.new segment }
         ensures partition { IsPartition self.new }
     {
-        let used = self.table.used_pages(segment);
-        let pages = self.table.width(segment);
-        self.table.drop_row(segment);
+        let near = self.table.near(segment);
+        let used = self.table.used_pages(segment, near);
+        let pages = self.table.width(segment, near);
+        self.table.drop_row(segment, near);
         self.pages -= pages;
         self.free_pages -= pages - used;
         used
@@ -162,7 +170,7 @@ impl Heap {
         ensures answer { IsTrue result ↔ Contains self.now.used span.now }
         ensures partition { IsPartition self.now }
     {
-        self.table.has(&span.run)
+        self.table.has(&span.run, span.near)
     }
 
     /// Whether one of the segments has this number.
@@ -179,7 +187,8 @@ impl Heap {
         requires { IsTrue (has_segment self.now.segments segment) }
         ensures { IsTrue result ↔ NoneIn segment self.now.used }
     {
-        self.table.used_pages(segment) == 0
+        let near = self.table.near(segment);
+        self.table.used_pages(segment, near) == 0
     }
 
     /// The pages of all free runs.

@@ -63,28 +63,37 @@ impl PageRow {
     }
 }
 
-/// Where the row of this number stands, if one is there. It is found at once where the numbers rise
-/// by one, by halves where they rise, and else by a walk.
-pub(crate) fn find_row(rows: &[PageRow], id: u64) -> Option<usize>
+/// Where the row of this number stands, if one is there. It is found at once where it stands at
+/// `near`, from there in steps that double and then by halves where the numbers rise, and else by a
+/// walk.
+pub(crate) fn find_row(rows: &[PageRow], id: u64, near: usize) -> Option<usize>
     ensures { IsRowOf rows.now id result }
 {
-    let straight = straight_row(rows, id);
-    if straight < rows.len() && rows[straight].id() == id {
-        return Some(straight);
-    }
-    let near = near_row(rows, id);
     if near < rows.len() && rows[near].id() == id {
         return Some(near);
+    }
+    let at = row_from(rows, id, near.min(rows.len()));
+    if at < rows.len() && rows[at].id() == id {
+        return Some(at);
     }
     first_row(rows, id)
 }
 
-/// Where the row of this number stands if the numbers rise by one.
-fn straight_row(rows: &[PageRow], id: u64) -> usize {
-    match rows.first() {
-        Some(first) => id.saturating_sub(first.id()) as usize,
-        None => 0,
+/// A guess at where the row of this number stands: where it stands if the numbers rise evenly.
+pub(crate) fn guess_row(rows: &[PageRow], id: u64) -> usize {
+    let Some(first) = rows.first() else {
+        return 0;
+    };
+    let Some(last) = rows.last() else {
+        return 0;
+    };
+    let offset = id.saturating_sub(first.id());
+    let reach = last.id().saturating_sub(first.id());
+    let steps = rows.len().saturating_sub(1) as u64;
+    if reach <= steps {
+        return offset as usize;
     }
+    (offset.saturating_mul(steps) / reach) as usize
 }
 
 /// Where the first row of this number stands, by a walk.
@@ -94,13 +103,52 @@ fn first_row(rows: &[PageRow], id: u64) -> Option<usize>
     rows.iter().position(|row| row.id() == id)
 }
 
-/// Where the row of this number stands if the numbers rise.
-fn near_row(rows: &[PageRow], id: u64) -> usize {
-    let mut low = 0;
-    let mut high = rows.len();
+/// Whether there is a row at this index, and its number is below this one.
+fn is_below(rows: &[PageRow], at: usize, id: u64) -> bool {
+    at < rows.len() && rows[at].id() < id
+}
+
+/// Where the row of this number stands if the numbers rise. It is looked for from a guess on.
+fn row_from(rows: &[PageRow], id: u64, guess: usize) -> usize {
+    if is_below(rows, guess, id) {
+        return row_between(rows, id, guess, end_from(rows, id, guess));
+    }
+    row_between(rows, id, start_from(rows, id, guess), guess)
+}
+
+/// An index behind a guess that the row of this number does not stand behind, in steps that double.
+fn end_from(rows: &[PageRow], id: u64, guess: usize) -> usize {
+    let mut step: usize = 1;
+    for _ in 0..usize::BITS {
+        let at = guess.saturating_add(step);
+        if !is_below(rows, at, id) {
+            return at.min(rows.len());
+        }
+        step = step.saturating_mul(2);
+    }
+    rows.len()
+}
+
+/// An index before a guess that the row of this number does not stand before, in steps that double.
+fn start_from(rows: &[PageRow], id: u64, guess: usize) -> usize {
+    let mut step: usize = 1;
+    for _ in 0..usize::BITS {
+        let at = guess.saturating_sub(step);
+        if at == 0 || is_below(rows, at, id) {
+            return at;
+        }
+        step = step.saturating_mul(2);
+    }
+    0
+}
+
+/// Where the row of this number stands between two indices if the numbers rise, by halves.
+fn row_between(rows: &[PageRow], id: u64, start: usize, end: usize) -> usize {
+    let mut low = start;
+    let mut high = end;
     while low < high {
         let middle = low + (high - low) / 2;
-        if rows[middle].id() < id {
+        if is_below(rows, middle, id) {
             low = middle + 1;
         } else {
             high = middle;
@@ -110,11 +158,11 @@ fn near_row(rows: &[PageRow], id: u64) -> usize {
 }
 
 /// Where the row of this number stands.
-pub(crate) fn row_of(rows: &[PageRow], id: u64) -> usize
+pub(crate) fn row_of(rows: &[PageRow], id: u64, near: usize) -> usize
     requires { IsTrue (list_any (is_row id) rows.now) }
     ensures { RowStands rows.now id result }
 {
-    match find_row(rows, id) {
+    match find_row(rows, id, near) {
         Some(at) => at,
         None => 0,
     }

@@ -8,6 +8,9 @@ use std::marker::Model;
 #[derive(Debug, Drop)]
 pub struct Span {
     pub(crate) run: Run,
+    /// Where the row of its segment stood in the table. Rows move up when a segment is dropped, so
+    /// this is a guess.
+    pub(crate) near: usize,
 }
 
 impl Model for Span {

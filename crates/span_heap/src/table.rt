@@ -10,7 +10,7 @@ ghost use Rattle.span_heap.specs.Table.{AreSized, BeginFrom, CanCome, IsEmptied,
 ghost use Rattle.span_heap.specs.Table.{NoneBegins, OneBefore, OneBehind, page_of, without_before, without_behind};
 
 use crate::placed::PlacedRuns;
-use crate::row::{PageRow, find_row, new_places, row_of, widen_all};
+use crate::row::{PageRow, find_row, guess_row, new_places, row_of, widen_all};
 use crate::run::Run;
 use std::alloc::Global;
 use std::marker::Model;
@@ -98,31 +98,41 @@ impl PageTable {
         Ok(())
     }
 
+    /// Where the row of a segment stands. The calls below take such a place as `near` and look there
+    /// first; whatever it is, they do the same.
+    pub(crate) fn near(&self, id: u64) -> usize {
+        let rows = self.rows.as_slice();
+        match find_row(rows, id, guess_row(rows, id)) {
+            Some(at) => at,
+            None => 0,
+        }
+    }
+
     /// How many pages a segment has.
-    pub(crate) fn width(&self, id: u64) -> u32
+    pub(crate) fn width(&self, id: u64, near: usize) -> u32
         requires { IsTrue (has_segment self.now.segments id) }
         ensures { Contains self.now.segments (segment_of id result) }
     {
-        let at = row_of(self.rows.as_slice(), id);
+        let at = row_of(self.rows.as_slice(), id, near);
         self.rows[at].len() as u32
     }
 
     /// Drops a segment with its free runs and its used spans, page by page.
-    pub(crate) fn drop_row(&mut self, id: u64)
+    pub(crate) fn drop_row(&mut self, id: u64, near: usize)
         requires { IsTrue (has_segment self.old.segments id) }
         ensures segments { self.new.segments ≡ filter (λ s. not (has_id id s)) self.old.segments }
         ensures free { self.new.free ≡ dropped self.old.free id }
         ensures used { self.new.used ≡ dropped self.old.used id }
     {
-        for page in 0..self.width(id) {
-            self.clear_free(id, page);
-            self.clear_used(id, page);
+        for page in 0..self.width(id, near) {
+            self.clear_free(id, page, near);
+            self.clear_used(id, page, near);
         }
-        self.remove_row(id);
+        self.remove_row(id, near);
     }
 
     /// Takes out the free run that begins at a page, where no run of the segment begins before it.
-    fn clear_free(&mut self, id: u64, page: u32)
+    fn clear_free(&mut self, id: u64, page: u32, near: usize)
         requires within { LiesWithin self.old.segments (page_of id page) }
         requires from { BeginFrom id page self.old.free }
         ensures from { BeginFrom id (page + 1) self.new.free }
@@ -130,13 +140,13 @@ impl PageTable {
         ensures used { self.new.used ≡ self.old.used }
         ensures segments { self.new.segments ≡ self.old.segments }
     {
-        if let Some(run) = self.free_at(id, page) {
-            self.take_free(run);
+        if let Some(run) = self.free_at(id, page, near) {
+            self.take_free(run, near);
         }
     }
 
     /// Takes out the used span that begins at a page, where none of the segment begins before it.
-    fn clear_used(&mut self, id: u64, page: u32)
+    fn clear_used(&mut self, id: u64, page: u32, near: usize)
         requires within { LiesWithin self.old.segments (page_of id page) }
         requires from { BeginFrom id page self.old.used }
         ensures from { BeginFrom id (page + 1) self.new.used }
@@ -144,52 +154,52 @@ impl PageTable {
         ensures free { self.new.free ≡ self.old.free }
         ensures segments { self.new.segments ≡ self.old.segments }
     {
-        if let Some(span) = self.used_at(id, page) {
-            self.take_used(span);
+        if let Some(span) = self.used_at(id, page, near) {
+            self.take_used(span, near);
         }
     }
 
     /// The free run that begins at a page of a segment, if there is one.
-    fn free_at(&self, id: u64, page: u32) -> Option<Run>
+    fn free_at(&self, id: u64, page: u32, near: usize) -> Option<Run>
         requires { LiesWithin self.now.segments (page_of id page) }
         ensures { IsRunAt self.now.free id page result }
     {
-        let at = row_of(self.rows.as_slice(), id);
+        let at = row_of(self.rows.as_slice(), id, near);
         let place = self.rows[at].place(page);
         Run::marked(id, page, self.free_from[place as usize])
     }
 
     /// The used span that begins at a page of a segment, if there is one.
-    fn used_at(&self, id: u64, page: u32) -> Option<Run>
+    fn used_at(&self, id: u64, page: u32, near: usize) -> Option<Run>
         requires { LiesWithin self.now.segments (page_of id page) }
         ensures { IsRunAt self.now.used id page result }
     {
-        let at = row_of(self.rows.as_slice(), id);
+        let at = row_of(self.rows.as_slice(), id, near);
         let place = self.rows[at].place(page);
         Run::marked(id, page, self.used_from[place as usize])
     }
 
     /// Removes a segment that has no run. Its places serve the next segments.
-    fn remove_row(&mut self, id: u64)
+    fn remove_row(&mut self, id: u64, near: usize)
         requires { IsEmptied self.old id }
         ensures segments { self.new.segments ≡ filter (λ s. not (has_id id s)) self.old.segments }
         ensures free { self.new.free ≡ dropped self.old.free id }
         ensures used { self.new.used ≡ dropped self.old.used id }
     {
-        let at = row_of(self.rows.as_slice(), id);
+        let at = row_of(self.rows.as_slice(), id, near);
         let row = self.rows.remove(at);
         self.counts.remove(at);
         row.give_places(&mut self.spare);
     }
 
     /// Takes out a free run.
-    pub(crate) fn take_free(&mut self, run: Run)
+    pub(crate) fn take_free(&mut self, run: Run, near: usize)
         requires { Contains self.old.free run }
         ensures free { self.new.free ≡ filter (λ other. not (is_run run other)) self.old.free }
         ensures used { self.new.used ≡ self.old.used }
         ensures segments { self.new.segments ≡ self.old.segments }
     {
-        let at = row_of(self.rows.as_slice(), run.segment);
+        let at = row_of(self.rows.as_slice(), run.segment, near);
         let first = self.rows[at].place(run.first);
         let last = self.rows[at].place(run.first + (run.pages - 1));
         self.runs.take_free(first);
@@ -198,7 +208,7 @@ impl PageTable {
     }
 
     /// Adds a free run, as the latest.
-    pub(crate) fn add_free(&mut self, run: Run)
+    pub(crate) fn add_free(&mut self, run: Run, near: usize)
         requires lies { LiesWithin self.old.segments run }
         requires not_free { NoneBegins run.segment run.first self.old.free }
         requires not_used { NoneBegins run.segment run.first self.old.used }
@@ -207,7 +217,7 @@ impl PageTable {
         ensures used { self.new.used ≡ self.old.used }
         ensures segments { self.new.segments ≡ self.old.segments }
     {
-        let at = row_of(self.rows.as_slice(), run.segment);
+        let at = row_of(self.rows.as_slice(), run.segment, near);
         let first = self.rows[at].place(run.first);
         let last = self.rows[at].place(run.first + (run.pages - 1));
         self.runs.add_free(first, run);
@@ -216,14 +226,14 @@ impl PageTable {
     }
 
     /// Takes out a used span.
-    pub(crate) fn take_used(&mut self, span: Run)
+    pub(crate) fn take_used(&mut self, span: Run, near: usize)
         requires { Contains self.old.used span }
         ensures free { self.new.free ≡ self.old.free }
         ensures used { IsPermutation self.old.used (span ∷ self.new.used) }
         ensures others { self.new.used ≡ filter (λ other. not (is_run span other)) self.old.used }
         ensures segments { self.new.segments ≡ self.old.segments }
     {
-        let at = row_of(self.rows.as_slice(), span.segment);
+        let at = row_of(self.rows.as_slice(), span.segment, near);
         let first = self.rows[at].place(span.first);
         self.runs.take_used(first);
         self.used_from[first as usize] -= span.pages;
@@ -231,7 +241,7 @@ impl PageTable {
     }
 
     /// Adds a used span.
-    pub(crate) fn add_used(&mut self, span: Run)
+    pub(crate) fn add_used(&mut self, span: Run, near: usize)
         requires lies { LiesWithin self.old.segments span }
         requires not_free { NoneBegins span.segment span.first self.old.free }
         requires not_used { NoneBegins span.segment span.first self.old.used }
@@ -240,7 +250,7 @@ impl PageTable {
         ensures used { self.new.used ≡ self.old.used ++ span ∷ [] }
         ensures segments { self.new.segments ≡ self.old.segments }
     {
-        let at = row_of(self.rows.as_slice(), span.segment);
+        let at = row_of(self.rows.as_slice(), span.segment, near);
         let first = self.rows[at].place(span.first);
         self.runs.add_used(first, span);
         self.used_from[first as usize] += span.pages;
@@ -248,7 +258,7 @@ impl PageTable {
     }
 
     /// Adds what a run has behind its first `pages` pages, if anything, as the latest free run.
-    pub(crate) fn add_rest(&mut self, run: Run, pages: u32)
+    pub(crate) fn add_rest(&mut self, run: Run, pages: u32, near: usize)
         requires come { pages < run.pages → CanCome self.old (back_of run pages) }
         requires end { run.first + run.pages < 2 ^ 32 }
         ensures free { self.new.free ≡ self.old.free ++ rest_of run pages }
@@ -256,12 +266,12 @@ impl PageTable {
         ensures segments { self.new.segments ≡ self.old.segments }
     {
         if pages < run.pages {
-            self.add_free(run.back(pages));
+            self.add_free(run.back(pages), near);
         }
     }
 
     /// Takes out the free run that ends where this span begins, and answers its pages, or 0.
-    pub(crate) fn take_before(&mut self, span: &Run) -> u32
+    pub(crate) fn take_before(&mut self, span: &Run, near: usize) -> u32
         requires lies { LiesWithin self.old.segments span.now }
         requires one { OneBefore self.old.free span.now }
         requires sized { AreSized self.old.free }
@@ -270,19 +280,22 @@ impl PageTable {
         ensures used { self.new.used ≡ self.old.used }
         ensures segments { self.new.segments ≡ self.old.segments }
     {
-        let pages = self.pages_before(span);
+        let pages = self.pages_before(span, near);
         if pages > 0 {
-            self.take_free(Run {
-                segment: span.segment,
-                first: span.first - pages,
-                pages,
-            });
+            self.take_free(
+                Run {
+                    segment: span.segment,
+                    first: span.first - pages,
+                    pages,
+                },
+                near,
+            );
         }
         pages
     }
 
     /// Takes out the free run that begins where this span ends, and answers its pages, or 0.
-    pub(crate) fn take_behind(&mut self, span: &Run) -> u32
+    pub(crate) fn take_behind(&mut self, span: &Run, near: usize) -> u32
         requires lies { LiesWithin self.old.segments span.now }
         requires one { OneBehind self.old.free span.now }
         requires sized { AreSized self.old.free }
@@ -292,13 +305,16 @@ impl PageTable {
         ensures used { self.new.used ≡ self.old.used }
         ensures segments { self.new.segments ≡ self.old.segments }
     {
-        let pages = self.pages_behind(span);
+        let pages = self.pages_behind(span, near);
         if pages > 0 {
-            self.take_free(Run {
-                segment: span.segment,
-                first: span.first + span.pages,
-                pages,
-            });
+            self.take_free(
+                Run {
+                    segment: span.segment,
+                    first: span.first + span.pages,
+                    pages,
+                },
+                near,
+            );
         }
         pages
     }
@@ -311,11 +327,11 @@ impl PageTable {
     }
 
     /// How many pages the free run has that ends where this span begins, or 0 where there is none.
-    pub(crate) fn pages_before(&self, span: &Run) -> u32
+    pub(crate) fn pages_before(&self, span: &Run, near: usize) -> u32
         requires { LiesWithin self.now.segments span.now }
         ensures { result ≡ pages_before self.now.free span.now }
     {
-        let at = row_of(self.rows.as_slice(), span.segment);
+        let at = row_of(self.rows.as_slice(), span.segment, near);
         if span.first == 0 {
             return 0;
         }
@@ -324,11 +340,11 @@ impl PageTable {
     }
 
     /// How many pages the free run has that begins where this span ends, or 0 where there is none.
-    pub(crate) fn pages_behind(&self, span: &Run) -> u32
+    pub(crate) fn pages_behind(&self, span: &Run, near: usize) -> u32
         requires { LiesWithin self.now.segments span.now }
         ensures { result ≡ pages_behind self.now.free span.now }
     {
-        let at = row_of(self.rows.as_slice(), span.segment);
+        let at = row_of(self.rows.as_slice(), span.segment, near);
         let end = u64::from(span.first) + u64::from(span.pages);
         if end >= self.rows[at].len() as u64 {
             return 0;
@@ -347,10 +363,10 @@ impl PageTable {
     }
 
     /// Whether this is one of the used spans.
-    pub(crate) fn has(&self, span: &Run) -> bool
+    pub(crate) fn has(&self, span: &Run, near: usize) -> bool
         ensures { IsTrue result ↔ Contains self.now.used span.now }
     {
-        let Some(at) = find_row(self.rows.as_slice(), span.segment) else {
+        let Some(at) = find_row(self.rows.as_slice(), span.segment, near) else {
             return false;
         };
         if span.pages == 0 {
@@ -367,16 +383,17 @@ impl PageTable {
     pub(crate) fn has_segment(&self, id: u64) -> bool
         ensures { result ≡ has_segment self.now.segments id }
     {
-        find_row(self.rows.as_slice(), id).is_some()
+        let rows = self.rows.as_slice();
+        find_row(rows, id, guess_row(rows, id)).is_some()
     }
 
     /// How many pages of a segment are used.
-    pub(crate) fn used_pages(&self, id: u64) -> u32
+    pub(crate) fn used_pages(&self, id: u64, near: usize) -> u32
         requires { IsTrue (has_segment self.now.segments id) }
         ensures pages { result ≡ pages_in id self.now.used }
         ensures none { (result ≡ 0) ↔ NoneIn id self.now.used }
     {
-        let at = row_of(self.rows.as_slice(), id);
+        let at = row_of(self.rows.as_slice(), id, near);
         self.counts[at]
     }
 }

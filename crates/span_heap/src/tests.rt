@@ -1,4 +1,5 @@
-ghost use Rattle.std.specs.Prelude.{◌≡◌, ◌+◌, ◌^◌, ◌<◌, ◌≤◌};
+ghost use Rattle.std.specs.Prelude.{◌≡◌, ◌+◌, ◌*◌, ◌^◌, ◌<◌, ◌≤◌, IfOk};
+ghost use Rattle.span_heap.specs.Heap.{size_of};
 
 use super::*;
 use std::alloc::Global;
@@ -26,17 +27,26 @@ fn stands_at(runs: &Runs, place: u64, segment: u64, first: u32, pages: u32) -> b
     }
 }
 
+/// Adds a segment and frees it whole.
+fn add_free(heap: &mut Heap, alloc: Global, segment: u64, pages: u32) -> Result<(), Fail>
+    requires sized { (1 ≤ pages) × (pages ≤ 300) }
+    requires small { size_of heap.old.segments ≤ 300 * 300 }
+    ensures { IfOk result (λ _. size_of heap.new.segments ≤ size_of heap.old.segments + 300) }
+{
+    if heap.has_segment(segment) {
+        return Err(Fail::new("the heap has such a segment"));
+    }
+    let span = heap.grow(alloc, segment, pages)?;
+    give_back(heap, span)
+}
+
 /// Segments 7, 8, 9 and 10 of 1, 3, 3 and 300 pages, freed whole in this order.
 fn four_free_segments(alloc: Global) -> Result<Heap, Fail> {
     let mut heap = Heap::new(alloc)?;
-    let span = heap.grow(alloc, 7, 1)?;
-    give_back(&mut heap, span)?;
-    let span = heap.grow(alloc, 8, 3)?;
-    give_back(&mut heap, span)?;
-    let span = heap.grow(alloc, 9, 3)?;
-    give_back(&mut heap, span)?;
-    let span = heap.grow(alloc, 10, 300)?;
-    give_back(&mut heap, span)?;
+    add_free(&mut heap, alloc, 7, 1)?;
+    add_free(&mut heap, alloc, 8, 3)?;
+    add_free(&mut heap, alloc, 9, 3)?;
+    add_free(&mut heap, alloc, 10, 300)?;
     Ok(heap)
 }
 
@@ -108,17 +118,29 @@ fn finds(heap: &mut Heap, pages: u32, slack: u32, segment: u64) -> bool
     }
 }
 
+/// Segments of 1 to 300 pages, each freed whole and numbered by its pages.
+fn segment_of_each_length(alloc: Global) -> Result<Heap, Fail> {
+    let mut heap = Heap::new(alloc)?;
+    for pages in 1..301 {
+        add_free(&mut heap, alloc, u64::from(pages), pages)?;
+    }
+    Ok(heap)
+}
+
+#[test]
+fn each_length_is_found(rt: HostRuntime) -> Result<(), Fail> {
+    let mut heap = segment_of_each_length(rt.alloc())?;
+    for pages in 1..301 {
+        assert!(rt; finds(&mut heap, pages, 0, u64::from(pages)));
+    }
+    assert!(rt; heap.free_pages() == 0);
+    Ok(())
+}
+
 #[test]
 fn lengths_from_256_on_are_one(rt: HostRuntime) -> Result<(), Fail> {
-    let alloc = rt.alloc();
-    let mut heap = Heap::new(alloc)?;
-    let span = heap.grow(alloc, 1, 255)?;
-    give_back(&mut heap, span)?;
-    let span = heap.grow(alloc, 2, 256)?;
-    give_back(&mut heap, span)?;
-    let span = heap.grow(alloc, 3, 257)?;
-    give_back(&mut heap, span)?;
-    assert!(rt; finds(&mut heap, 256, 1, 3));
-    assert!(rt; finds(&mut heap, 255, 2, 1) && finds(&mut heap, 200, 57, 2));
+    let mut heap = segment_of_each_length(rt.alloc())?;
+    assert!(rt; finds(&mut heap, 256, 1, 257));
+    assert!(rt; finds(&mut heap, 255, 2, 255) && finds(&mut heap, 255, 1, 256));
     Ok(())
 }

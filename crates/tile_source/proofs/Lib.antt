@@ -1,3 +1,4 @@
+pub mod Drawing
 pub mod Gaps
 pub mod Numbers
 pub mod Powers

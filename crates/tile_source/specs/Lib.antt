@@ -1,3 +1,4 @@
+pub mod Draws
 pub mod Grammar
 pub mod Image
 pub mod Length

@@ -1,12 +1,13 @@
 #![tactic(auto)]
 //! `timings`: how long single calls take, each beside a plain one in the same run. With no words it
-//! does nothing. Each word is the name of a measurement, `locks`, `tries`, `looks` or `heaps`, whose two times
-//! it prints, in picoseconds a turn.
+//! does nothing. Each word is the name of a measurement, `locks`, `tries`, `looks`, `heaps`, `spaced`,
+//! `squares` or `drops`, whose two times it prints, in picoseconds a turn. The middle three search and free
+//! where the numbers of the segments rise by one, by three and as the squares. In `drops` a turn is a page.
 
 mod heap_steps;
 mod segment_steps;
 
-use crate::heap_steps::heaps;
+use crate::heap_steps::{Numbers, drops, heaps};
 use crate::segment_steps::{Times, locks, looks, tries};
 use std::{env, io};
 
@@ -18,7 +19,10 @@ fn main(rt: HostRuntime) -> io::Result<()> {
             "locks" => locks(&rt, alloc)?,
             "tries" => tries(&rt, alloc)?,
             "looks" => looks(&rt, alloc)?,
-            "heaps" => heaps(&rt, alloc)?,
+            "heaps" => heaps(&rt, alloc, Numbers::ByOne)?,
+            "spaced" => heaps(&rt, alloc, Numbers::ByThree)?,
+            "squares" => heaps(&rt, alloc, Numbers::Squares)?,
+            "drops" => drops(&rt, alloc)?,
             _ => continue,
         };
         let Times { ours, plain } = times;

@@ -34,13 +34,22 @@ impl Times {
         }
     }
 
-    /// With the times of one more run.
-    pub(crate) fn with(self, ours: Duration, plain: Duration) -> Times {
+    /// With the times of one more run of so many turns.
+    pub(crate) fn with(self, turns: u64, ours: Duration, plain: Duration) -> Times
+        requires { 1 ≤ turns }
+    {
         Times {
-            ours: self.ours.min(ours.as_nanos() / 1000),
-            plain: self.plain.min(plain.as_nanos() / 1000),
+            ours: self.ours.min(each(ours, turns)),
+            plain: self.plain.min(each(plain, turns)),
         }
     }
+}
+
+/// The picoseconds of each of so many turns.
+fn each(time: Duration, turns: u64) -> u128
+    requires { 1 ≤ turns }
+{
+    time.as_nanos().saturating_mul(1000) / u128::from(turns)
 }
 
 /// The sides of a new segment of one page.
@@ -67,7 +76,7 @@ pub fn locks<C: Clock>(clock: &C, alloc: Global) -> io::Result<Times> {
         let word = AtomicU64::new(2);
         let start = Instant::now(clock)?;
         exchange_twice(&word, TURNS);
-        times = times.with(ours, start.elapsed(clock)?);
+        times = times.with(TURNS, ours, start.elapsed(clock)?);
     }
     Ok(times)
 }
@@ -107,7 +116,7 @@ pub fn tries<C: Clock>(clock: &C, alloc: Global) -> io::Result<Times> {
         let word = AtomicU64::new(1);
         let start = Instant::now(clock)?;
         fail_exchanges(&word, TURNS);
-        times = times.with(ours, start.elapsed(clock)?);
+        times = times.with(TURNS, ours, start.elapsed(clock)?);
     }
     Ok(times)
 }
@@ -147,7 +156,7 @@ pub fn looks<C: Clock>(clock: &C, alloc: Global) -> io::Result<Times> {
         let word = AtomicU64::new(2);
         let start = Instant::now(clock)?;
         load_on(&word, TURNS);
-        times = times.with(ours, start.elapsed(clock)?);
+        times = times.with(TURNS, ours, start.elapsed(clock)?);
     }
     Ok(times)
 }

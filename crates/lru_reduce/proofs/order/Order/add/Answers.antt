@@ -1,29 +1,36 @@
-use Rattle.std.proofs.Common.{ℕ, arith, ◌∙◌, ap, nat_lt}
-use Rattle.std.specs.List.{insert}
+use Rattle.std.proofs.Common.{◌≡◌, ℕ, List, length, unwrap_or, Option, ap, ◌∙◌, arith}
 use Rattle.segment.specs.Warded.{Warded}
-use Rattle.lru_reduce.specs.Wards.{Wards}
-use Rattle.lru_reduce.proofs.Placed.{front_short, insert-placed, AreLive-placed}
+use Rattle.machine.specs.Reduction.{use_of}
+use Rattle.lru_reduce.specs.Wards.{Wards, candidate_of}
+use Rattle.lru_reduce.proofs.Held.{long_placed}
+use Rattle.lru_reduce.proofs.Ordered.{others_placed, known_placed}
 use Rattle.lru_reduce.proofs.order.Order.add.Goals as goal
 
-pub insert-requires : goal.insert-requires
-insert-requires c =
-    let place = rw (c.deref.ensures.value, c.id.ensures) at c.place_after-place.ensures in
-    let short = front_short (λ (w : Warded). nat_lt c.args.side.id w.id) c.self.inside.sides.items in
-    omega (arith, place, short)
+pub renew-requires-clause-others : goal.renew-requires-clause-others
+renew-requires-clause-others c = rw c.id-id.ensures (others_placed c.args.side c.self.inside.table.sides c.add.new.self.sides c.self.inside.keys.keys c.add.ensures.sides c.self.invariant.1.each)
+
+pub renew-requires-clause-known : goal.renew-requires-clause-known
+renew-requires-clause-known c =
+    let fresh = rw (← c.self.view_is) at c.requires.new in
+    let known : c.unwrap_or-known.result ≡ use_of (candidate_of c.args.side) = c.unwrap_or-known.ensures ∙ ap (λ (o : Option ℕ). unwrap_or o 0) c.known.ensures.known in
+    rw (c.id-id.ensures, known) (known_placed c.args.side c.self.inside.table.sides c.add.new.self.sides c.add.ensures.sides fresh)
+
+pub renew-requires-clause-room : goal.renew-requires-clause-room
+renew-requires-clause-room c =
+    let long = ap (λ (ws : List Warded). length ws) c.add.ensures.sides ∙ long_placed c.args.side c.self.inside.table.sides in
+    let second = c.self.invariant.3 in
+    let spare = ap (λ (w : Wards). w.spare) c.self.view_is in
+    let some = c.requires.spare in
+    omega (arith, long, second, spare, some)
 
 pub invariant_of-self : goal.invariant_of-self
 invariant_of-self c =
-    let place = rw (c.deref.ensures.value, c.id.ensures) at c.place_after-place.ensures in
-    let new = rw (← c.self.view_is) at c.requires.new in
+    let long = ap (λ (ws : List Warded). length ws) c.add.ensures.sides ∙ long_placed c.args.side c.self.inside.table.sides in
+    let first = c.self.invariant.2 in
+    let second = c.self.invariant.3 in
+    let third = c.self.invariant.4 in
+    let room = c.add.ensures.room in
+    let kept = c.renew.ensures.room in
     let spare = ap (λ (w : Wards). w.spare) c.self.view_is in
-    let items = c.in-Ok.ensures.items ∙ ap (λ (n : ℕ). insert c.self.inside.sides.items n c.args.side) place ∙ insert-placed c.args.side c.self.inside.sides.items in
-    (rw items (AreLive-placed c.args.side c.self.inside.sides.items c.self.invariant.0 c.requires.free new), omega (arith, c.self.invariant.1, spare, c.requires.spare, c.in-Ok.ensures.len, c.in-Ok.ensures.capacity))
-
-pub returns : goal.returns
-returns c =
-    let place = rw (c.deref.ensures.value, c.id.ensures) at c.place_after-place.ensures in
-    let spare = rw (← c.self.view_is) at c.requires.spare in
-    rw (← c.self.view_is) record {
-      sides = c.in-Ok.ensures.items ∙ ap (λ (n : ℕ). insert c.self.inside.sides.items n c.args.side) place ∙ insert-placed c.args.side c.self.inside.sides.items;
-      spare = omega (arith, spare);
-    }
+    let some = c.requires.spare in
+    (c.add.ensures.are, c.renew.ensures.keyed, omega (arith, long, first, room, spare, some), omega (arith, long, second, kept, spare, some), omega (arith, long, third, spare, some))

@@ -1,28 +1,26 @@
-use Rattle.std.proofs.Common.{arith, ◌∙◌, sym, refl}
-use Rattle.lru_reduce.proofs.Placed.{StandsAt-position, there, not_there, all_stay, AreLive-out}
+use Rattle.std.proofs.Common.{sym, refl, ap, ◌∙◌, arith}
+use Rattle.lru_reduce.specs.Wards.{Tabled}
+use Rattle.lru_reduce.proofs.Placed.{all_stay}
+use Rattle.lru_reduce.proofs.Ordered.{each_left, left_long}
 use Rattle.lru_reduce.proofs.order.Order.forget.Goals as goal
 
-pub invariant_of-self : goal.invariant_of-self
-invariant_of-self c =
-    let found = rw c.deref.ensures.value at c.in-Some.ensures in
-    let at = StandsAt-position c.args.id c.in-Some.place c.self.inside.sides.items c.self.invariant.0 (sym found) in
-    (rw c.remove.ensures.items (AreLive-out c.self.inside.sides.items c.in-Some.place c.remove.result c.self.invariant.0 at.inside), omega (arith, c.self.invariant.1, c.remove.ensures.len, c.remove.ensures.capacity))
+pub settle-requires : goal.settle-requires
+settle-requires c = record { each = each_left c.args.id c.self.inside.table.sides c.take.new.self.sides c.self.inside.keys.keys c.in-Some.ensures.some.sides c.self.invariant.1.each }
 
-pub returns-in-Some : goal.returns-in-Some
-returns-in-Some c =
-    let found = rw c.deref.ensures.value at c.in-Some.ensures in
-    let at = StandsAt-position c.args.id c.in-Some.place c.self.inside.sides.items c.self.invariant.0 (sym found) in
-    rw (← c.self.view_is) record {
-      found = sym (there c.args.id c.in-Some.place c.self.inside.sides.items (sym found));
-      sides = c.remove.ensures.items ∙ at.out;
-      spare = refl;
-    }
+pub invariant_of-self-2 : goal.invariant_of-self-2
+invariant_of-self-2 c =
+    let long = left_long c.args.id c.in-Some._side c.self.inside.table.sides c.take.new.self.sides c.self.invariant.0 c.in-Some.ensures.some in
+    let first = c.self.invariant.2 in
+    let second = c.self.invariant.3 in
+    let third = c.self.invariant.4 in
+    let room = c.in-Some.ensures.room in
+    let kept = c.settle.ensures.room in
+    (c.in-Some.ensures.are, c.settle.ensures.keyed, omega (arith, long, first, room), omega (arith, long, second, kept), omega (arith, long, third))
 
-pub returns-in-None : goal.returns-in-None
-returns-in-None c =
-    let found = rw c.deref.ensures.value at c.in-None.ensures in
+pub returns-in_default : goal.returns-in_default
+returns-in_default c =
     rw (← c.self.view_is) record {
-      found = sym (not_there c.args.id c.self.inside.sides.items (sym found));
-      sides = sym (all_stay c.args.id c.self.inside.sides.items (not_there c.args.id c.self.inside.sides.items (sym found)));
+      found = c.in_default.ensures.live;
+      sides = ap (λ (t : Tabled). t.sides) c.in_default.ensures.none ∙ sym (all_stay c.args.id c.self.inside.table.sides (sym c.in_default.ensures.live));
       spare = refl;
     }

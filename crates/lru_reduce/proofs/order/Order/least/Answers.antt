@@ -1,12 +1,12 @@
-use Rattle.std.proofs.Common.{◌≡◌, sym, ap, ap₂, ◌∙◌, ℕ, Some}
-use Rattle.segment.specs.Warded.{Warded}
-use Rattle.machine.specs.Reduction.{least}
-use Rattle.lru_reduce.specs.Wards.{candidate_of, candidates_of}
+use Rattle.std.proofs.Common.{sym}
+use Rattle.lru_reduce.specs.Calls.{told}
+use Rattle.lru_reduce.proofs.Ordered.{told_first, none_least}
 use Rattle.lru_reduce.proofs.order.Order.least.Goals as goal
+
+pub returns-in_err-known : goal.returns-in_err-known
+returns-in_err-known c =
+    rw (c.from_residual.ensures, ← c.self.view_is) (sym (none_least told c.self.inside.table.sides c.self.inside.keys.keys c.self.invariant.1 c.in_err-known.ensures.none))
 
 pub returns : goal.returns
 returns c =
-    let first = rw c.deref.ensures.value at c.in_ok-place.ensures.least in
-    let w = c.index-side.result.now in
-    let found : least (candidates_of c.self.inside.sides.items) ≡ Some (candidate_of w) = first w ∙ ap (λ (v : Warded). Some (candidate_of v)) (sym c.index-side.ensures) in
-    rw (← c.self.view_is, found) (ap₂ (λ (a b : ℕ). Some (a, b)) c.id.ensures c.use_of.ensures)
+    rw (← c.self.view_is) (sym (told_first (c.in_ok-known.known, c.in_ok-known.id) c.self.inside.table.sides c.self.inside.keys.keys c.self.invariant.1 c.in_ok-known.ensures.some))

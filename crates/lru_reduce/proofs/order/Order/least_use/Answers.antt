@@ -1,12 +1,12 @@
-use Rattle.std.proofs.Common.{◌≡◌, sym, ap, ◌∙◌, ℕ, Some}
-use Rattle.segment.specs.Warded.{Warded}
-use Rattle.machine.specs.Reduction.{least}
-use Rattle.lru_reduce.specs.Wards.{candidate_of, candidates_of}
+use Rattle.std.proofs.Common.{sym}
+use Rattle.machine.specs.Reduction.{use_of}
+use Rattle.lru_reduce.proofs.Ordered.{use_first, none_least}
 use Rattle.lru_reduce.proofs.order.Order.least_use.Goals as goal
+
+pub returns-in_err-known : goal.returns-in_err-known
+returns-in_err-known c =
+    rw (c.from_residual.ensures, ← c.self.view_is) (sym (none_least use_of c.self.inside.table.sides c.self.inside.keys.keys c.self.invariant.1 c.in_err-known.ensures.none))
 
 pub returns : goal.returns
 returns c =
-    let first = rw c.deref.ensures.value at c.in_ok-place.ensures.least in
-    let w = c.index.result.now in
-    let found : least (candidates_of c.self.inside.sides.items) ≡ Some (candidate_of w) = first w ∙ ap (λ (v : Warded). Some (candidate_of v)) (sym c.index.ensures) in
-    rw (← c.self.view_is, found) (ap (λ (n : ℕ). Some n) c.use_of.ensures)
+    rw (← c.self.view_is) (sym (use_first (c.in_ok-known.known, c.in_ok-known.field-0-1) c.self.inside.table.sides c.self.inside.keys.keys c.self.invariant.1 c.in_ok-known.ensures.some))

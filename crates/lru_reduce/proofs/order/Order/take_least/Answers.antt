@@ -1,26 +1,36 @@
-use Rattle.std.proofs.Common.{◌≡◌, ap, ◌∙◌, arith, sym, refl, false, filter, not, ◌==◌, subst, Some}
-use Rattle.std.specs.List.{Contains}
-use Rattle.std.proofs.lemmas.List.Elements.{Contains-get_or, All-get_or}
-use Rattle.segment.specs.Warded.{Warded}
-use Rattle.lru_reduce.specs.Wards.{number_of, candidate_of}
-use Rattle.lru_reduce.proofs.Keyed.{remove-but}
-use Rattle.lru_reduce.proofs.Placed.{AreLive-out}
+use Rattle.std.proofs.Common.{length, refl, arith}
+use Rattle.lru_reduce.proofs.Ordered.{told_first, none_first, front_live, each_left, left_long, takes_out}
 use Rattle.lru_reduce.proofs.order.Order.take_least.Goals as goal
 
-pub invariant_of-self : goal.invariant_of-self
-invariant_of-self c =
-    let some = rw c.deref.ensures.value at c.in_ok-place.ensures.some in
-    (rw c.remove.ensures.items (AreLive-out c.self.inside.sides.items c.in_ok-place.place c.remove.result c.self.invariant.0 some), omega (arith, c.self.invariant.1, c.remove.ensures.len, c.remove.ensures.capacity))
+pub returns-in_err-id : goal.returns-in_err-id
+returns-in_err-id c =
+    rw (c.from_residual.ensures, ← c.self.view_is) (none_first c.self.inside.table.sides c.self.inside.keys.keys c.self.invariant.1 c.in_err-id.ensures.none, refl)
+
+pub returns-in_err-side : goal.returns-in_err-side
+returns-in_err-side c = absurd (front_live (c.in_ok-id.field-0-0, c.in_ok-id.id) c.self.inside.table.sides c.self.inside.keys.keys c.self.invariant.1 c.in_ok-id.ensures.some c.in_err-side.ensures.live)
+
+pub settle-requires : goal.settle-requires
+settle-requires c = record { each = each_left c.in_ok-id.id c.self.inside.table.sides c.take.new.self.sides c.self.inside.keys.keys c.in_ok-side.ensures.some.sides c.self.invariant.1.each }
+
+pub overflow_add-self : goal.overflow_add-self
+overflow_add-self c =
+    let long = left_long c.in_ok-id.id c.in_ok-side.side c.self.inside.table.sides c.take.new.self.sides c.self.invariant.0 c.in_ok-side.ensures.some in
+    let third = c.self.invariant.4 in
+    omega (arith, long, third)
+
+pub invariant_of-self-2 : goal.invariant_of-self-2
+invariant_of-self-2 c =
+    let long = left_long c.in_ok-id.id c.in_ok-side.side c.self.inside.table.sides c.take.new.self.sides c.self.invariant.0 c.in_ok-side.ensures.some in
+    let first = c.self.invariant.2 in
+    let second = c.self.invariant.3 in
+    let third = c.self.invariant.4 in
+    let room = c.in_ok-side.ensures.room in
+    let kept = c.settle.ensures.room in
+    (c.in_ok-side.ensures.are, c.settle.ensures.keyed, omega (arith, long, first, room), omega (arith, long, second, kept), omega (arith, long, third))
 
 pub returns : goal.returns
 returns c =
-    let some = rw c.deref.ensures.value at c.in_ok-place.ensures.some in
-    let least = rw c.deref.ensures.value at c.in_ok-place.ensures.least in
-    let items = c.self.inside.sides.items in let place = c.in_ok-place.place in let w = c.remove.result in
-    rw (← c.self.view_is) record {
-      stood = subst (λ (v : Warded). Contains items v) (sym c.remove.ensures.value) (Contains-get_or items place w some);
-      first = least w ∙ ap (λ (v : Warded). Some (candidate_of v)) (sym c.remove.ensures.value);
-      free = subst (λ (v : Warded). v.taken ≡ false) (sym c.remove.ensures.value) (All-get_or (λ (v : Warded). v.taken ≡ false) items place w some c.self.invariant.0.free);
-      sides = c.remove.ensures.items ∙ remove-but number_of items place w c.self.invariant.0.rising some ∙ ap (λ (v : Warded). filter (λ (u : Warded). not (u.id == v.id)) items) (sym c.remove.ensures.value);
-      spare = refl;
-    }
+    rw (← c.self.view_is)
+    (takes_out c.in_ok-id.id c.in_ok-id.field-0-0 c.self.inside.spare (length c.self.inside.keys.keys) (length c.settle.new.keys.keys) c.in_ok-side.side c.self.inside.table.sides c.take.new.self.sides
+    c.self.invariant.0 c.in_ok-side.ensures.some
+    (told_first (c.in_ok-id.field-0-0, c.in_ok-id.id) c.self.inside.table.sides c.self.inside.keys.keys c.self.invariant.1 c.in_ok-id.ensures.some))

@@ -1,0 +1,5 @@
+pub mod Counting
+pub mod Growth
+pub mod StateGrows
+pub mod Keeping
+pub mod Ending

@@ -1,0 +1,82 @@
+-- Each call of a state grows its book.
+use Rattle.std.proofs.Common.{◌≡◌, ⊎_elim, ℕ, ◌+◌, Bool, true, false, ◌&&◌, List, [], ◌∷◌, ◌++◌, Result, Ok, Err, refl, sym, ap, ◌∙◌, subst, arith, if◌then◌else◌, nat_lt}
+use Rattle.std.specs.Prelude.{MatchBool, IfOk, OnErr}
+use Rattle.machine.specs.Reduction.{tries, purged_by}
+use Rattle.lru_reduce.specs.Wards.{candidates_of, total_pages}
+use Rattle.lru_reduce.specs.declared.reduction.Reduced.{Reduced}
+use Rattle.segment.specs.Owned.{Owned}
+use Rattle.discard_book.specs.declared.entry.Entry.{Entry}
+use Rattle.discard_book.specs.declared.entry.Entry.TheVariants as entry
+use Rattle.discard_book.specs.Live.{live, has_number, grants}
+use Rattle.discard_book.specs.Legal.{room}
+use Rattle.manager_state.specs.Managed.{Managed}
+use Rattle.manager_state.specs.Clients.{is_with}
+use Rattle.manager_state.specs.Calls.{Reduces, MakesRoom, Grants, RunsOut, RunsShort}
+use Rattle.manager.specs.Counted.{count_one, counted}
+use Rattle.manager.specs.Grows.{Grows}
+use Rattle.manager.proofs.Growth.{grows_none, grows_more, grows_granted, grows_back, grows_reduced, grows_round, grows_grants}
+
+-- the book grew under any limit by no Grant, and the state's limit stays
+abbrev pub Kept : Managed → Managed → Type 0
+Kept old new = ((limit : ℕ) → Grows limit 0 0 old.entries new.entries) × (new.limit ≡ old.limit)
+
+pub same_kept : (old new : Managed) → new.entries ≡ old.entries → new.limit ≡ old.limit → Kept old new
+same_kept old new e l = (λ limit. subst (λ (es : List Entry). Grows limit 0 0 old.entries es) (sym e) (grows_none limit old.entries), l)
+
+pub then_kept : (first second third : Managed) → Kept first second → Kept second third → Kept first third
+then_kept first second third a b = (λ limit. grows_more limit 0 0 0 0 first.entries second.entries third.entries (a.0 limit) (b.0 limit), b.1 ∙ a.1)
+
+pub reduces_kept : (to now : ℕ) (told : Reduced) (old new : Managed) → Reduces to now told old new → Kept old new
+reduces_kept to now told old new r = (λ limit. grows_reduced limit (purged_by (tries now (candidates_of old.sides) r.reduces.words)) to now (total_pages new.sides) told.least old.entries new.entries r.reduces.entries, r.limit)
+
+-- a reduction to the state's limit is an enforcement
+pub reduces_round : (to now : ℕ) (told : Reduced) (old new : Managed) → Reduces to now told old new → Grows to 0 1 old.entries new.entries
+reduces_round to now told old new r = grows_round (purged_by (tries now (candidates_of old.sides) r.reduces.words)) to now (total_pages new.sides) told.least old.entries new.entries r.reduces.entries
+
+makes_kept : (b : Bool) (to now : ℕ) (old new : Managed) → MatchBool b ((told : Reduced) × Reduces to now told old new) (new ≡ old) → Kept old new
+makes_kept true to now old new h = reduces_kept to now h.0 old new h.1
+makes_kept false to now old new h = subst (λ (m : Managed). Kept old m) (sym h) (same_kept old old refl refl)
+
+pub room_kept : (pages now : ℕ) (old new : Managed) → MakesRoom pages now old new → Kept old new
+room_kept pages now old new h = makes_kept (nat_lt (room old.limit pages) _) (room old.limit pages) now old new h
+
+pub grants_grows : (client pages now : ℕ) (side : Owned) (old new : Managed) → Grants client pages now side old new
+    → Grows old.limit 1 0 old.entries new.entries × (new.limit ≡ old.limit) × (side.id ≡ grants old.entries + 1)
+grants_grows client pages now side old new g =
+    let kept = room_kept pages now old g.between g.room in
+    let last : Grows old.limit 1 0 g.between.entries new.entries = subst (λ (es : List Entry). Grows old.limit 1 0 g.between.entries es) (sym g.enters.entries)
+    (subst (λ (l : ℕ). Grows old.limit 1 0 g.between.entries (g.between.entries ++ entry.Grant side.id client pages l ∷ [])) (sym kept.1) (grows_granted old.limit side.id client pages g.between.entries)) in
+    let number : grants g.between.entries ≡ grants old.entries + 0 = grows_grants old.limit 0 0 old.entries g.between.entries (kept.0 old.limit) in (
+      grows_more old.limit 0 0 1 0 old.entries g.between.entries new.entries (kept.0 old.limit) last,
+      g.enters.limit ∙ kept.1,
+      (let e = g.enters.number in omega arith),
+    )
+
+runs_short : (pages : ℕ) (old new : Managed) → RunsShort pages old new → Kept old new
+runs_short pages old new h = ⊎_elim
+    (λ (e : new ≡ old). same_kept old new (ap (λ (m : Managed). m.entries) e) (ap (λ (m : Managed). m.limit) e))
+    (λ e. same_kept old new (ap (λ (m : Managed). m.entries) e) (ap (λ (m : Managed). m.limit) e))
+    h
+
+pub runs_out_kept : (pages now : ℕ) (old new : Managed) → RunsOut pages now old new → Kept old new
+runs_out_kept pages now old new r = then_kept old r.between new
+    (⊎_elim
+    (λ (e : r.between ≡ old). same_kept old r.between (ap (λ (m : Managed). m.entries) e) (ap (λ (m : Managed). m.limit) e))
+    (λ h. room_kept pages now old r.between h)
+    r.room)
+    (runs_short pages r.between new r.short)
+
+one_counted : (limit : ℕ) (b : Bool) (id : ℕ) (book : List Entry) → Grows limit 0 0 book (if b then book ++ entry.Back id ∷ [] else book)
+one_counted limit true id book = grows_back limit id book
+one_counted limit false id book = grows_none limit book
+
+-- what returns make of a book
+pub counted_grows : (limit : ℕ) (book : List Entry) (pairs : List (ℕ × ℕ)) → Grows limit 0 0 book (counted book pairs)
+counted_grows limit book [] = grows_none limit book
+counted_grows limit book (p ∷ ps) = grows_more limit 0 0 0 0 book (count_one book p) (counted (count_one book p) ps)
+    (one_counted limit (is_with p.0 p.1 book && has_number (live book) p.1) p.1 book) (counted_grows limit (count_one book p) ps)
+
+-- a reduction that may be out of memory
+pub reduced_kept : {E : Type 0} (to now : ℕ) (result : Result Reduced E) (old new : Managed) → IfOk result (λ told. Reduces to now told old new) → OnErr result (new ≡ old) → Kept old new
+reduced_kept to now (Ok told) old new ok err = reduces_kept to now told old new ok
+reduced_kept to now (Err e) old new ok err = same_kept old new (ap (λ (m : Managed). m.entries) err) (ap (λ (m : Managed). m.limit) err)

@@ -1,0 +1,5 @@
+pub mod Counted
+pub mod Tokens
+pub mod Grows
+pub mod Ends
+pub mod Standing

@@ -1,0 +1,201 @@
+ghost use Rattle.std.specs.Prelude.{◌≡◌, ℕ, ◌+◌, ◌^◌, ◌<◌, ◌≤◌, Some, None, true, false, length, IfSome, IfNone, IfOk, OnOk, OnErr, is_some, option_map};
+ghost use Rattle.units.specs.Moment.{IsMoment};
+ghost use Rattle.units.specs.declared.TheConstants.{MOST_PAGES};
+ghost use Rattle.segment.specs.Owned.{IsGranted};
+ghost use Rattle.discard_book.specs.Legal.{IsLegal};
+ghost use Rattle.manager_state.specs.Calls.{limit_under};
+ghost use Rattle.manager.specs.Tokens.{with_grant, with_round};
+ghost use Rattle.manager.specs.Grows.{Grows, IsAccounted};
+ghost use Rattle.manager.specs.Ends.{HasEnded};
+ghost use Rattle.manager.specs.declared.shares.TheConstants.{PARTS};
+
+use crate::desk::Desk;
+use crate::fixed::Fixed;
+use crate::shares::{Shares, Totals, count_grant, count_round};
+use lru_reduce::Reduced;
+use manager_state::{Back, Level, State};
+use return_queue::{Note, Returns};
+use segment::OwnerSide;
+use std::alloc::Global;
+use std::marker::{Model, PhantomData};
+use std::sync::Wait;
+use std::sync::ledger::Ledger;
+use units::NoMemory;
+
+/// What lies behind a manager's lock: the desk, and the totals of the ledgers where the manager
+/// has them. Its state has the limit that was fixed, its book grew from the entries handed in and
+/// each Grant since carries the limit, the totals are what the book gained, and the taker is of the
+/// manager's queue.
+#[derive(Drop)]
+pub(crate) struct Behind<R: Returns, F: Fixed, G: Ledger, E: Ledger> {
+    desk: Desk<R>,
+    totals: Option<Totals<G, E>>,
+    fixed: PhantomData<F>,
+}
+
+impl<R: Returns, F: Fixed, G: Ledger, E: Ledger> Model for Behind<R, F, G, E> {
+    ghost use Rattle.manager_state.specs.Managed.{Managed};
+    ghost use Rattle.manager.specs.Grows.{IsKept};
+
+    ghost Value = { Managed };
+
+    ghost view = { λ b. b.desk.state };
+
+    ghost invariant = { λ b. IsKept F.limit F.handed F.counts b.totals b.desk.state
+        × R.is_taker F.queue b.desk.taker };
+}
+
+/// How many entries a state's book has.
+fn entry_count(state: &State) -> u64
+    ensures count { result ≡ length state.now.entries }
+    ensures few { result < 2 ^ 64 }
+{
+    state.book().entries().len() as u64
+}
+
+impl<R: Returns, F: Fixed, G: Ledger, E: Ledger> Behind<R, F, G, E> {
+    /// A desk, with or without totals.
+    pub(crate) fn new(desk: Desk<R>, totals: Option<Totals<G, E>>) -> Behind<R, F, G, E>
+        requires limit { desk.state.limit ≡ F.limit }
+        requires entries { desk.state.entries ≡ F.handed }
+        requires taker { R.is_taker F.queue desk.taker }
+        requires counts { is_some totals ≡ F.counts }
+        requires fresh { IfSome totals (λ t. (t.grants ≡ 0) × (t.rounds ≡ 0)) }
+    {
+        Behind {
+            desk,
+            totals,
+            fixed: PhantomData,
+        }
+    }
+
+    /// Counts what stands in the queue.
+    pub(crate) fn settle<H: Wait>(&mut self, rt: &H, returns: &R) -> u64
+        requires { F.queue ≡ R.name returns.now }
+    {
+        self.desk.settle(rt, returns)
+    }
+
+    /// Counts what a pass had seen given, and then a note.
+    pub(crate) fn settle_behind<H: Wait>(
+        &mut self,
+        rt: &H,
+        returns: &R,
+        pass: R::Pass,
+        note: Note,
+    ) -> Back
+        requires queue { F.queue ≡ R.name returns.now }
+        requires pass { R.is_pass F.queue pass }
+    {
+        self.desk.settle_behind(rt, returns, pass, note)
+    }
+
+    /// Counts all that stands in the queue.
+    pub(crate) fn drain<H: Wait>(&mut self, rt: &H, returns: &R, pass: R::Pass) -> u64
+        requires queue { F.queue ≡ R.name returns.now }
+        requires pass { R.is_pass F.queue pass }
+    {
+        self.desk.drain(rt, returns, pass)
+    }
+
+    /// Grants a segment and counts it, or answers None where the book has fewer Grants than `above`.
+    pub(crate) fn grant(
+        &mut self,
+        alloc: Global,
+        client: u32,
+        pages: u32,
+        now: u64,
+        above: u64,
+        shares: &mut Option<Shares<G, E>>,
+    ) -> Result<Option<OwnerSide>, NoMemory>
+        requires client { 1 ≤ client }
+        requires pages { (1 ≤ pages) × (pages ≤ MOST_PAGES) }
+        requires moment { IsMoment now }
+        requires shares { is_some shares.old ≡ F.counts }
+        requires part { IfSome shares.old (λ s. 0 < s.parts) }
+        ensures side { IfOk result (λ turn. IfSome turn (λ side. IsGranted pages side)) }
+        ensures number { IfOk result (λ turn. IfSome turn (λ side. above < side.id)) }
+        ensures counted { IfOk result (λ turn. IfSome turn (λ _.
+            shares.new ≡ option_map with_grant shares.old)) }
+        ensures none { IfOk result (λ turn. IfNone turn (shares.new ≡ shares.old)) }
+        ensures err { OnErr result (shares.new ≡ shares.old) }
+    {
+        if self.desk.state.book().grants() < above {
+            return Ok(None);
+        }
+        let side = self.desk.state.grant(alloc, client, pages, now)?;
+        count_grant(&mut self.totals, shares);
+        Ok(Some(side))
+    }
+
+    /// Reduces to the limit, and counts it.
+    pub(crate) fn enforce_counted(
+        &mut self,
+        alloc: Global,
+        now: u64,
+        shares: &mut Option<Shares<G, E>>,
+    ) -> Result<Reduced, NoMemory>
+        requires moment { IsMoment now }
+        requires shares { is_some shares.old ≡ F.counts }
+        requires part { IfSome shares.old (λ s. 0 < s.parts) }
+        ensures ended { IfOk result (λ told. HasEnded F.limit now told) }
+        ensures counted { OnOk result (shares.new ≡ option_map with_round shares.old) }
+        ensures err { OnErr result (shares.new ≡ shares.old) }
+    {
+        let told = self.desk.state.enforce(alloc, now)?;
+        entry_count(&self.desk.state);
+        count_round(&mut self.totals, shares);
+        Ok(told)
+    }
+
+    /// Reduces to the limit.
+    pub(crate) fn enforce(&mut self, alloc: Global, now: u64) -> Result<Reduced, NoMemory>
+        requires { IsMoment now }
+        ensures { IfOk result (λ told. HasEnded F.limit now told) }
+    {
+        self.desk.state.enforce(alloc, now)
+    }
+
+    /// Reduces as a level of pressure asks.
+    pub(crate) fn pressure(
+        &mut self,
+        alloc: Global,
+        level: Level,
+        now: u64,
+    ) -> Result<Reduced, NoMemory>
+        requires { IsMoment now }
+        ensures { IfOk result (λ told. HasEnded (limit_under level F.limit) now told) }
+    {
+        self.desk.state.pressure(alloc, level, now)
+    }
+
+    /// The state.
+    pub(crate) fn finish(self) -> State
+        ensures limit { result.limit ≡ F.limit }
+        ensures grown { (granted : ℕ) × Grows F.limit granted 0 F.handed result.entries }
+        ensures legal { IsLegal result.entries }
+    {
+        let Behind { desk, .. } = self;
+        let Desk { state, .. } = desk;
+        let _book = state.book();
+        state
+    }
+
+    /// The state, where all shares are together.
+    pub(crate) fn finish_with(self, mut whole: Shares<G, E>) -> State
+        requires counts { F.counts ≡ true }
+        requires all { whole.parts ≡ PARTS }
+        ensures limit { result.limit ≡ F.limit }
+        ensures grown { Grows F.limit whole.grants whole.rounds F.handed result.entries }
+        ensures legal { IsLegal result.entries }
+    {
+        let Behind { desk, totals, .. } = self;
+        let Some(mut totals) = totals else {
+            unreachable!()
+        };
+        totals.audit(&mut whole);
+        let Desk { state, .. } = desk;
+        let _book = state.book();
+        state
+    }
+}

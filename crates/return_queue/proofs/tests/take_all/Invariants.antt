@@ -1,0 +1,4 @@
+use Rattle.return_queue.proofs.tests.take_all.Given as goal
+
+abbrev pub invariant-loop : goal.invariant-loop
+invariant-loop g l = g.Q.Returns.is_taker (g.Q.Returns.name l.queue) l.taker
