@@ -113,22 +113,11 @@ fn run_beside(
     if same_words(room.as_slice(), reply) && same_entries(more, added) {
         return Ok(None);
     }
-    Ok(Some(tell(
-        alloc,
-        place,
-        room.as_slice(),
-        more,
-        reply,
-        added,
-    )?))
+    Ok(Some(tell(alloc, place, room.as_slice(), more, reply, added)?))
 }
 
 /// Runs a script on both.
-pub(crate) fn run_both(
-    alloc: Global,
-    cfg: &ReplayCfg,
-    script: Script,
-) -> Result<BothRuns, NoMemory>
+pub(crate) fn run_both(alloc: Global, cfg: &ReplayCfg, script: Script) -> Result<BothRuns, NoMemory>
     requires { AreInRange script }
     ensures { IfOk result (λ runs. BothStand runs (first_state cfg.now) script) }
 {
