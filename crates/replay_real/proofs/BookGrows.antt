@@ -1,5 +1,5 @@
 -- Each call of the manager only adds to the book.
-use Rattle.std.proofs.Common.{◌≡◌, ◌⊎◌, ℕ, Bool, true, false, List, [], ◌∷◌, ◌++◌, map, Option, refl, sym, ap, ◌∙◌, ⊎_elim, append_assoc, MatchBool, nat_lt}
+use Rattle.std.proofs.Common.{◌≡◌, ℕ, Bool, true, false, List, [], ◌∷◌, ◌++◌, map, Option, sym, ap, ◌∙◌, ⊎_elim, append_assoc, MatchBool, nat_lt}
 use Rattle.std.proofs.lemmas.List.{append-nil}
 use Rattle.segment.specs.Owned.{Owned}
 use Rattle.discard_book.specs.declared.entry.Entry.{Entry}
@@ -14,7 +14,7 @@ use Rattle.manager_state.specs.Managed.{Managed}
 use Rattle.manager_state.specs.declared.answers.Back.{Back}
 use Rattle.manager_state.specs.declared.answers.Tried.{Tried}
 use Rattle.manager_state.specs.declared.answers.Tried.TheVariants.{Taken, Used, NotLive}
-use Rattle.manager_state.specs.Calls.{Reduces, MakesRoom, Enters, Grants, RunsShort, RunsOut, GivesBack, TriesOne, Removes}
+use Rattle.manager_state.specs.Calls.{Reduces, MakesRoom, Grants, RunsOut, GivesBack, TriesOne, Removes}
 use Rattle.replay_real.specs.Standing.{Grows}
 
 pub grows_same : (before after : List Entry) → after ≡ before → Grows before after

@@ -1,5 +1,5 @@
 -- The run stands for the state of the replay, command by command.
-use Rattle.std.proofs.Common.{◌⊎◌, inl, inr, ◌≡◌, ◌≢◌, ℕ, ◌+◌, ◌<◌, ◌≤◌, ◌==◌, nat_lt, Bool, true, false, not, ◌&&◌, cond, MatchBool, List, [], ◌∷◌, ◌++◌, length, take, drop, filter, count_by, zero-add, add-zero, refl, sym, ap, ◌∙◌, subst, arith}
+use Rattle.std.proofs.Common.{◌⊎◌, inl, inr, ◌≡◌, ◌≢◌, ℕ, ◌+◌, ◌≤◌, ◌==◌, nat_lt, Bool, true, false, not, cond, MatchBool, List, [], ◌∷◌, ◌++◌, length, filter, add-zero, refl, sym, ap, ◌∙◌, subst, arith}
 use Rattle.std.proofs.lemmas.List.{append-nil}
 use Rattle.std.proofs.lemmas.List.Sums.{sum_by_push}
 use Rattle.std.proofs.lemmas.Bool.{false≢true}
@@ -11,13 +11,12 @@ use Rattle.machine.specs.declared.event.Answer.TheVariants.{Granted, Gone}
 use Rattle.machine.specs.History.{History, client_of}
 use Rattle.machine.specs.Answers.{answered, answered_after, answer, answer_of, granted, granted_numbers}
 use Rattle.machine.specs.Laws.{taken_off, added}
-use Rattle.machine.specs.Segments.{IsUnknown}
 use Rattle.machine.proofs.Whole.{answered_push, granted as grant_answer}
 use Rattle.machine.proofs.Counts.{counted_once}
 use Rattle.segment.specs.Owned.{Owned}
 use Rattle.discard_book.specs.declared.entry.Entry.{Entry}
 use Rattle.discard_book.specs.declared.entry.Entry.TheVariants as entry
-use Rattle.discard_book.specs.Live.{live, live_after, takes_out, grants, pages_of, granted as granted_by_entries}
+use Rattle.discard_book.specs.Live.{live, grants, pages_of, granted as granted_by_entries}
 use Rattle.discard_book.specs.Legal.{room}
 use Rattle.discard_book.proofs.Pushed.{live-push, grants-push}
 use Rattle.lru_reduce.specs.declared.reduction.Reduced.{Reduced}
@@ -25,7 +24,7 @@ use Rattle.manager_state.specs.Managed.{Managed}
 use Rattle.manager_state.specs.Calls.{Reduces, Grants, MakesRoom}
 use Rattle.replay_plain.specs.declared.config.ReplayCfg.{ReplayCfg}
 use Rattle.replay_plain.specs.State.{ReplayState, first_state, is_grant, grants_of, next_grant, after_event, entries_of, entries_by}
-use Rattle.replay_plain.specs.Replies.{answer_text, answered_text, grant_text}
+use Rattle.replay_plain.specs.Replies.{answer_text, grant_text}
 use Rattle.replay_plain.specs.Commands.{after_grant}
 use Rattle.replay_real.specs.declared.owners.Given.{Given}
 use Rattle.replay_real.specs.Owners.{given_at, ShowsEach}

@@ -1,5 +1,5 @@
 -- The words of replies have no LF.
-use Rattle.std.proofs.Common.{◌≡◌, ℕ, ◌+◌, ◌%◌, ◌/◌, ◌==◌, nat_lt, Bool, true, false, true≢false, ◌||◌, cond, List, [], ◌∷◌, ◌++◌, get_or, zero, suc, Option, Some, None, decimal, flat_map, codes, refl, sym, ap, ◌∙◌, arith}
+use Rattle.std.proofs.Common.{◌≡◌, ℕ, ◌+◌, ◌%◌, ◌/◌, ◌==◌, nat_lt, Bool, true, false, true≢false, ◌||◌, cond, List, [], ◌∷◌, ◌++◌, get_or, zero, suc, Option, Some, None, decimal, flat_map, codes, refl, ◌∙◌, arith}
 use Rattle.std.specs.List.{list_any}
 use Rattle.std.specs.Fmt.{digits, digits_onto, digit_glyph}
 use Rattle.std.proofs.lemmas.List.Folds.{list_any-append}

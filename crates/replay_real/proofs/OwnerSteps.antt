@@ -1,21 +1,21 @@
 -- What an owner's steps make of its segment, as the history tells it.
-use Rattle.std.proofs.Common.{take, drop, ◌++◌, ◌/◌, ap, ◌≡◌, ◌≢◌, ◌↔◌, ℕ, ◌+◌, ◌-◌, ◌*◌, ◌<◌, ◌≤◌, nat_lt, nat_le, max, Bool, true, false, not, ◌&&◌, cond, List, [], ◌∷◌, length, get_or, count_by, None, refl, sym, ◌∙◌, subst, ⊎_elim, arith, IsTrue}
-use Rattle.std.proofs.lemmas.Bool.{and_parts, cases_lt, cases_eq, false≢true, ltb-true, le-ltb, eqb-true, ne_eqb}
+use Rattle.std.proofs.Common.{take, drop, ◌++◌, ◌/◌, ap, ◌≡◌, ◌↔◌, ℕ, ◌+◌, ◌-◌, ◌*◌, ◌<◌, ◌≤◌, nat_lt, nat_le, max, Bool, true, false, not, ◌&&◌, cond, List, ◌∷◌, length, get_or, None, refl, sym, ◌∙◌, subst, ⊎_elim, arith, IsTrue}
+use Rattle.std.proofs.lemmas.Bool.{and_parts, cases_lt, false≢true, ltb-true, ne_eqb}
 use Rattle.std.proofs.lemmas.Bool.Decides.{nat_tests}
 use Rattle.std.specs.List.{refill}
 use Rattle.std.proofs.Math.Seq.{take-append_seam}
 use Rattle.std.proofs.lemmas.List.{get_or_past}
 use Rattle.units.specs.declared.TheConstants.{PAGE}
 use Rattle.units.specs.Moment.{IsMoment, is_moment}
-use Rattle.units.proofs.Ranges.{all_pass, one_fails, each_passes}
+use Rattle.units.proofs.Ranges.{all_pass, each_passes}
 use Rattle.machine.specs.declared.event.Event.TheVariants.{Grant, Lock, Unlock, Write}
 use Rattle.machine.specs.declared.event.Answer.TheVariants.{Granted, Misuse, Held, Gone, Idle, StillHeld, Written}
 use Rattle.machine.specs.History.{History, is_held, pages_of, put}
-use Rattle.machine.specs.Answers.{bytes_held, answer_of, can_lock, can_unlock, is_plain, are_free, are_held, staying, unlocked}
+use Rattle.machine.specs.Answers.{bytes_held, answer_of, can_lock, can_unlock, is_plain, are_free, are_held, staying}
 use Rattle.machine.specs.Kept.{Kept}
 use Rattle.machine.specs.Segments.{Shows, IsUnknown}
 use Rattle.machine.proofs.Steps.{shows_grant, shows_idle, shows_still_held, shows_lock, shows_write}
-use Rattle.machine.proofs.Told.{past_the_end, unlock_told, lock_told, unlock_misuse, unlock_answer, lock_misuse, lock_answer, staying_told}
+use Rattle.machine.proofs.Told.{plain_told, unlock_plain, past_the_end, unlock_told, lock_told, unlock_misuse, unlock_answer, lock_misuse, lock_answer, staying_told}
 use Rattle.segment.specs.Owned.{Owned, new_owner, IsGranted, after_unlock}
 use Rattle.segment.specs.declared.owner.Phase.{Phase}
 use Rattle.segment.specs.declared.owner.Phase.TheVariants as phase
@@ -45,8 +45,8 @@ owns_new side locks some granted all =
     holds n e = omega arith
 
 -- a true test where the range is locked
-held_range : (h : History) (s first count : ℕ) (kept : Kept) → Shows h s kept → AreLocked kept.held first count → are_held h s first count ≡ true
-held_range h s first count kept w a = all_pass (λ page. is_held h s page) first count (λ page low high. sym (w.held page) ∙ a.each page low high)
+held_range : (h : History) (s first count : ℕ) (kept : Kept) → Shows h s kept → is_plain h s ≡ true → AreLocked kept.held first count → are_held h s first count ≡ true
+held_range h s first count kept w plain a = all_pass (λ page. is_held h s page) first count (λ page low high. sym (w.held plain page) ∙ a.each page low high)
 
 -- an Unlock that the machine takes finds its range locked
 can_unlock_locked : (h : History) (s first count at : ℕ) (kept : Kept) → Shows h s kept → can_unlock h s first count at ≡ true → AreLocked kept.held first count
@@ -54,10 +54,11 @@ can_unlock_locked h s first count at kept w e =
     let parts = and_parts (is_plain h s && nat_lt 0 count && are_held h s first count) (is_moment at) e in
     let range = and_parts (is_plain h s && nat_lt 0 count) (are_held h s first count) parts.0 in
     let some = ltb-true 0 count (and_parts (is_plain h s) (nat_lt 0 count) range.0).1 in
+    let plain = (and_parts (is_plain h s) (nat_lt 0 count) range.0).0 in
     record {
       some = some;
-      inside = ⊎_elim (λ far. absurd (false≢true (sym (past_the_end h s first count kept w some far) ∙ range.1))) (λ near. near) (cases_lt (length kept.held) (first + count));
-      each = λ page low high. w.held page ∙ each_passes (λ p. is_held h s p) first count page range.1 low high;
+      inside = ⊎_elim (λ far. absurd (false≢true (sym (past_the_end h s first count kept w plain some far) ∙ range.1))) (λ near. near) (cases_lt (length kept.held) (first + count));
+      each = λ page low high. w.held plain page ∙ each_passes (λ p. is_held h s p) first count page range.1 low high;
     }
 
 pub unlock_refused : (h : History) (s first count at : ℕ) (kept : Kept) (r : Bool) → Shows h s kept → (IsTrue r ↔ AreLocked kept.held first count) → r ≡ false
@@ -76,19 +77,19 @@ pub unlock_taken : (h : History) (s first count at : ℕ) (kept : Kept) (r : Boo
     → true ≡ can_unlock h s first count at
 unlock_taken h s first count at kept r w plain told yes_range moment =
     let a = told.0 yes_range in
-    unlock_told h s first count at kept true w plain a.some (moment_is at moment) (held_range h s first count kept w a)
+    unlock_told h s first count at kept true w plain a.some (moment_is at moment) (held_range h s first count kept w (plain_told h s kept w plain) a)
 
 pub still_held_answer : (h : History) (s first count at n : ℕ) (kept : Kept) (new : List Bool) → Shows h s kept → true ≡ can_unlock h s first count at
     → UnlocksRange kept.held new first count → n ≡ locked_count new → 0 < n → StillHeld n ≡ answer_of h (Unlock s first count at)
 still_held_answer h s first count at n kept new w can after counted some =
-    let stay : n ≡ staying h s first count = counted ∙ sym (staying_told h s first count kept new w after.size after.each) in
+    let stay : n ≡ staying h s first count = counted ∙ sym (staying_told h s first count kept new w (unlock_plain h s first count at can) after.size after.each) in
     sym (ap (λ (b : Bool). cond b (Idle (max kept.stamp at)) (StillHeld n)) (ne_eqb n 0 (λ e. omega arith)))
     ∙ unlock_answer h s first count at n kept w can stay
 
 pub idle_answer : (h : History) (s first count at n : ℕ) (kept : Kept) (new : List Bool) → Shows h s kept → true ≡ can_unlock h s first count at
     → UnlocksRange kept.held new first count → n ≡ locked_count new → n ≤ 0 → Idle (max at kept.stamp) ≡ answer_of h (Unlock s first count at)
 idle_answer h s first count at n kept new w can after counted none =
-    let stay : 0 ≡ staying h s first count = omega arith ∙ counted ∙ sym (staying_told h s first count kept new w after.size after.each) in
+    let stay : 0 ≡ staying h s first count = omega arith ∙ counted ∙ sym (staying_told h s first count kept new w (unlock_plain h s first count at can) after.size after.each) in
     ap Idle (omega arith) ∙ unlock_answer h s first count at 0 kept w can stay
 
 pub still_held_after : (h : History) (s first count at n : ℕ) (side : Owned) (locks new : List Bool) → Shows h s (kept_by side locks)
@@ -155,11 +156,12 @@ can_lock_free h s first count kept w e =
     let parts = and_parts (is_plain h s && nat_lt 0 count && nat_le (first + count) (pages_of h s)) (are_free h s first count) e in
     let range = and_parts (is_plain h s && nat_lt 0 count) (nat_le (first + count) (pages_of h s)) parts.0 in
     let inside = le-true (first + count) (pages_of h s) range.1 in
-    let pages = w.pages in
+    let plain = (and_parts (is_plain h s) (nat_lt 0 count) range.0).0 in
+    let pages = w.pages plain in
     record {
       some = ltb-true 0 count (and_parts (is_plain h s) (nat_lt 0 count) range.0).1;
       inside = omega arith;
-      each = λ page low high. w.held page ∙ was_not (is_held h s page) (each_passes (λ p. not (is_held h s p)) first count page parts.1 low high);
+      each = λ page low high. w.held plain page ∙ was_not (is_held h s page) (each_passes (λ p. not (is_held h s p)) first count page parts.1 low high);
     }
   where
     was_not : (b : Bool) → not b ≡ true → b ≡ false
@@ -183,7 +185,7 @@ lock_held h s first count kept w plain there told =
     sym (ap (λ (b : Bool). cond b Gone Held) there)
     ∙ lock_answer h s first count kept w
     (lock_told h s first count kept true w plain a.some a.inside
-    (all_pass (λ page. not (is_held h s page)) first count (λ page low high. ap not (sym (w.held page) ∙ a.each page low high))))
+    (all_pass (λ page. not (is_held h s page)) first count (λ page low high. ap not (sym (w.held (plain_told h s kept w plain) page) ∙ a.each page low high))))
 
 pub lock_after : (h : History) (s first count : ℕ) (old new : Owned) (locks after : List Bool) → Shows h s (kept_by old locks) → AfterHold lock.Held old new → LocksRange locks after first count
     → Shows ((Lock s first count, Held) ∷ h) s (kept_by new after)

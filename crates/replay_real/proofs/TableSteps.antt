@@ -1,15 +1,14 @@
 -- What a step of one segment makes of the table by number.
-use Rattle.std.proofs.Common.{◌≡◌, ◌≢◌, ℕ, ◌+◌, ◌<◌, ◌≤◌, ◌==◌, not, ◌&&◌, false, List, [], ◌∷◌, ◌++◌, length, get_or, set, zero, suc, Option, Some, None, refl, sym, ap, ◌∙◌, subst, ⊎_elim, arith, get_or-set_other, get_or-set_same, length-append}
+use Rattle.std.proofs.Common.{◌≡◌, ◌≢◌, ℕ, ◌<◌, ◌≤◌, ◌==◌, not, ◌&&◌, false, List, [], ◌∷◌, ◌++◌, length, get_or, set, zero, suc, refl, sym, ap, ◌∙◌, subst, ⊎_elim, arith, get_or-set_other, get_or-set_same, length-append}
 use Rattle.std.proofs.lemmas.Bool.{cases_lt, cases_eq, ne_eqb, false≢true}
 use Rattle.std.proofs.lemmas.List.{get_or_past, get_or_default, get_or_append_left, get_or_push}
 use Rattle.machine.specs.declared.event.Event.{Event}
-use Rattle.machine.specs.declared.event.Event.TheVariants.{Grant, Lock, Unlock, Write}
+use Rattle.machine.specs.declared.event.Event.TheVariants.{Grant}
 use Rattle.machine.specs.declared.event.Answer.{Answer}
 use Rattle.machine.specs.declared.event.Answer.TheVariants.{Misuse, Granted}
-use Rattle.machine.specs.History.{History, number_of, is_begun, is_ended, is_gone, is_held, stamp_of, known_of}
+use Rattle.machine.specs.History.{History, number_of, is_begun, pages_of, is_ended, is_gone, is_held, stamp_of, known_of}
 use Rattle.machine.specs.Answers.{answer_of, is_live, bytes_held}
-use Rattle.machine.specs.Kept.{Kept}
-use Rattle.machine.specs.Segments.{Shows, IsUnknown}
+use Rattle.machine.specs.Segments.{IsUnknown}
 use Rattle.machine.proofs.Whole.{unknown_misused, at_other, at_misuse}
 use Rattle.replay_plain.specs.State.{is_grant}
 use Rattle.replay_real.specs.declared.owners.Given.{Given}
@@ -61,8 +60,8 @@ each_push h id to pages table given next w step = λ s.
 
 -- nothing was granted before the first event
 pub none_known : (s : ℕ) → IsUnknown [] s
-unfolding is_begun is_ended is_gone is_held stamp_of known_of
-none_known s = record { begun = refl; held = λ page. refl; stamp = refl; known = refl; gone = refl; ended = refl }
+unfolding is_begun pages_of is_ended is_gone is_held stamp_of known_of
+none_known s = record { begun = refl; pages = refl; held = λ page. refl; stamp = refl; known = refl; gone = refl; ended = refl }
 
 only_nobody : (s : ℕ) → nobody ≡ get_or (nobody ∷ []) s nobody
 only_nobody zero = refl

@@ -17,7 +17,7 @@ use Rattle.replay_plain.specs.Commands.{pressed}
 use Rattle.replay_plain.specs.Replies.{answer_text, back_answer_text, reduced_words, removed_words, granted_words}
 use Rattle.replay_real.specs.declared.run.RealRun.{RealRun}
 use Rattle.replay_real.specs.declared.owners.Given.{Given}
-use Rattle.replay_real.specs.Owners.{given_at, GaveUp}
+use Rattle.replay_real.specs.Owners.{given_at, GaveUp, KeepsClients}
 
 -- a segment was granted, and its number told
 pub record GrantsAndTells (client pages now : ℕ) (old new : Managed) (before after : List ℕ) : Type 0 where
@@ -85,7 +85,7 @@ pub record Releases (client : ℕ) (old new : List Given) : Type 0 where
 pub record ReleasesBelow (client end : ℕ) (old new : List Given) : Type 0 where
   pub ended : (id : ℕ) → id < end → (given_at old id).client ≡ client → (given_at new id).owner ≡ None
   pub others : (id : ℕ) → (given_at old id).client ≢ client → given_at new id ≡ given_at old id
-  pub clients : (id : ℕ) → (given_at new id).client ≡ (given_at old id).client
+  pub clients : KeepsClients old new
   pub places : length new ≡ length old
 
 -- A client was removed: its live segments were counted off, and then each of its plain segments

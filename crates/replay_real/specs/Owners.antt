@@ -33,3 +33,7 @@ ShowsAt h id found = MatchOption found (IsUnknown h id) (λ kept. Shows h id kep
 -- each granted segment is plain, and its owner keeps what the history made of it
 abbrev pub ShowsEach : History → List Given → Type 0
 ShowsEach h table = (id : ℕ) → ShowsAt h id (given_at table id).owner
+
+-- each number is with the same client
+abbrev pub KeepsClients : List Given → List Given → Type 0
+KeepsClients old new = (id : ℕ) → (given_at new id).client ≡ (given_at old id).client

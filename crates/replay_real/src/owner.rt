@@ -1,4 +1,5 @@
-ghost use Rattle.std.specs.Prelude.{◌≡◌, ◌≢◌, ℕ, ◌+◌, ◌*◌, ◌<◌, ◌≤◌, ◌^◌, Bool, true, false, ◌&&◌, List, ◌∷◌, length, take, drop, is_some, slice_index_or, IfOk, IfSome, IsSome, IsNone};
+ghost use Rattle.std.specs.Prelude.{◌≡◌, ◌≢◌, ℕ, ◌+◌, ◌*◌, ◌<◌, ◌≤◌, ◌^◌, true, ◌&&◌, ◌∷◌, length};
+ghost use Rattle.std.specs.Prelude.{take, drop, is_some, IfOk, IfSome, IsSome, IsNone};
 ghost use Rattle.units.specs.declared.TheConstants.{PAGE};
 ghost use Rattle.units.specs.Moment.{IsMoment};
 ghost use Rattle.machine.specs.declared.event.Event.TheVariants as event;

@@ -1,11 +1,13 @@
-ghost use Rattle.std.specs.Prelude.{◌≡◌, ◌≢◌, ℕ, ◌+◌, ◌<◌, ◌≤◌, ◌==◌, ◌^◌, true, false, ◌&&◌, if◌then◌else◌, [], ◌∷◌, length, take, drop, None, Some, is_some, slice_set, IfOk, OnOk, IfSome};
+ghost use Rattle.std.specs.Prelude.{◌≡◌, ◌≢◌, ℕ, ◌+◌, ◌<◌, ◌≤◌, ◌==◌, ◌^◌, false, ◌&&◌};
+ghost use Rattle.std.specs.Prelude.{if◌then◌else◌, [], ◌∷◌, length, take, drop, None, Some};
+ghost use Rattle.std.specs.Prelude.{is_some, IfOk, OnOk, IfSome};
 ghost use Rattle.units.specs.Moment.{IsMoment};
 ghost use Rattle.machine.specs.declared.event.Event.TheVariants as event;
 ghost use Rattle.machine.specs.declared.event.Answer.TheVariants as answer;
 ghost use Rattle.machine.specs.History.{History, left_of};
 ghost use Rattle.machine.specs.Answers.{answer_of, is_live, bytes_held};
 ghost use Rattle.segment.specs.Owned.{new_owner, IsGranted};
-ghost use Rattle.replay_real.specs.Owners.{given_at, ShowsAt, ShowsEach, GaveUp};
+ghost use Rattle.replay_real.specs.Owners.{given_at, ShowsAt, ShowsEach, GaveUp, KeepsClients};
 
 use crate::owner::Owner;
 use block_pool::Block;
@@ -172,7 +174,7 @@ impl Owners {
             → result ≡ answer_of h (event.Lock id first count) }
         ensures after { (h : History) → ShowsEach h self.old → result ≢ answer.Gone
             → ShowsEach ((event.Lock id first count, result) ∷ h) self.new }
-        ensures clients { (n : ℕ) → (given_at self.new n).client ≡ (given_at self.old n).client }
+        ensures clients { KeepsClients self.old self.new }
         ensures places { length self.new ≡ length self.old }
     {
         if id >= self.given.len() as u64 {
@@ -190,7 +192,7 @@ impl Owners {
             → result ≡ answer_of h (event.Unlock id first count at) }
         ensures after { (h : History) → ShowsEach h self.old
             → ShowsEach ((event.Unlock id first count at, result) ∷ h) self.new }
-        ensures clients { (n : ℕ) → (given_at self.new n).client ≡ (given_at self.old n).client }
+        ensures clients { KeepsClients self.old self.new }
         ensures places { length self.new ≡ length self.old }
     {
         if id >= self.given.len() as u64 {
@@ -208,7 +210,7 @@ impl Owners {
             → result ≡ answer_of h (event.Write id place bytes.now) }
         ensures after { (h : History) → ShowsEach h self.old
             → ShowsEach ((event.Write id place bytes.now, result) ∷ h) self.new }
-        ensures clients { (n : ℕ) → (given_at self.new n).client ≡ (given_at self.old n).client }
+        ensures clients { KeepsClients self.old self.new }
         ensures places { length self.new ≡ length self.old }
     {
         if id >= self.given.len() as u64 {

@@ -1,6 +1,7 @@
-ghost use Rattle.std.specs.Prelude.{◌≡◌, ◌≢◌, ℕ, ◌+◌, ◌*◌, ◌<◌, ◌≤◌, ◌^◌, true, false, nat_lt, ◌++◌, length, drop, None, is_some, IfOk, OnOk};
+ghost use Rattle.std.specs.Prelude.{◌≡◌, ◌≢◌, ℕ, ◌+◌, ◌*◌, ◌<◌, ◌≤◌, ◌^◌, true, false, nat_lt};
+ghost use Rattle.std.specs.Prelude.{◌++◌, length, drop, None, is_some, IfOk, OnOk};
 ghost use Rattle.units.specs.Moment.{IsMoment};
-ghost use Rattle.units.specs.declared.TheConstants.{PAGE, MOST_PAGES};
+ghost use Rattle.units.specs.declared.TheConstants.{MOST_PAGES};
 ghost use Rattle.machine.specs.declared.event.Event.TheVariants as event;
 ghost use Rattle.machine.specs.Answers.{granted};
 ghost use Rattle.block_pool.specs.Stock.{no_blocks};
@@ -11,10 +12,14 @@ ghost use Rattle.line_text.specs.declared.command.Command.TheVariants as command
 ghost use Rattle.line_text.specs.Ranges.{IsInRange};
 ghost use Rattle.replay_plain.specs.State.{ReplayState, first_state, after_event};
 ghost use Rattle.replay_plain.specs.Commands.{after_grant, state_after, is_finding, pressed};
-ghost use Rattle.replay_plain.specs.Replies.{answered_text, read_text, grant_text, granted_text, granted_words, reduced_words, reply_of};
+ghost use Rattle.replay_plain.specs.Replies.{answered_text, read_text, grant_text, granted_text};
+ghost use Rattle.replay_plain.specs.Replies.{granted_words, reduced_words, reply_of};
 ghost use Rattle.replay_real.specs.Owners.{given_at};
-ghost use Rattle.replay_real.specs.Standing.{RealStandsFor, Follows, LockFollows, AppendsWords, Grows};
-ghost use Rattle.replay_real.specs.Acts.{Acts, GrantsAndTells, ReducesAndTells, SetsAndTells, TriesAndTells, ReturnsAndTells, HandsIn, Releases, RemovesAndTells, try_answer, back_answer};
+ghost use Rattle.replay_real.specs.Standing.{RealStandsFor, Follows, LockFollows, AppendsWords};
+ghost use Rattle.replay_real.specs.Standing.{Grows};
+ghost use Rattle.replay_real.specs.Acts.{Acts, GrantsAndTells, ReducesAndTells, SetsAndTells};
+ghost use Rattle.replay_real.specs.Acts.{TriesAndTells, ReturnsAndTells, HandsIn, Releases};
+ghost use Rattle.replay_real.specs.Acts.{RemovesAndTells, try_answer, back_answer};
 
 use crate::owners::Owners;
 use discard_book::Entry;
@@ -65,6 +70,7 @@ impl RealRun {
     /// Runs a command, and adds the words of its reply. As long as no command asked a segment what
     /// happened to it, the reply is that of the state that the run stands for, and the run stands
     /// for the state after the command. In any case the reply has no LF, and the book only grows.
+    /// After `NoMemory` only the book is told of: the run has come to its end.
     pub fn run(
         &mut self,
         alloc: Global,

@@ -8,7 +8,7 @@ use Rattle.line_text.specs.declared.limits.TheConstants.{MOST_SCRIPT_BYTES}
 use Rattle.line_text.specs.declared.cause.Cause.TheVariants as cause
 use Rattle.line_text.specs.Script.{IsRefused, cause_number}
 use Rattle.discard_io.specs.declared.status.Status.TheVariants.{BadInput}
-use Rattle.replay_run.specs.declared.config.ReplayCfg.{ReplayCfg}
+use Rattle.replay_plain.specs.declared.config.ReplayCfg.{ReplayCfg}
 use Rattle.replay_run.specs.declared.replaying.Replayed.{Replayed}
 use Rattle.replay_run.specs.Ending.{Devices, InputRefused, Ends}
 
@@ -68,8 +68,8 @@ front_refused before after why named took unwritten =
 
 -- a replay whose input is refused ends so
 pub ends_refused : (cfg : ReplayCfg) (replayed : Replayed) (before after : Devices) (place cause : ℕ)
-    → replayed ≡ record { status = BadInput place cause; differs = None } → InputRefused place cause before after
+    → replayed ≡ record { status = BadInput place cause; differs = None; state = None } → InputRefused place cause before after
     → before.read_faults ≤ after.read_faults → before.write_faults ≤ after.write_faults → Ends cfg replayed before after
 ends_refused cfg replayed before after place cause is refused reads writes =
     subst (λ (answer : Replayed). Ends cfg answer before after) (sym is)
-    (record { by_status = refused; differs = tt; reads = reads; writes = writes })
+    (record { by_status = refused; differs = tt; state = tt; reads = reads; writes = writes })

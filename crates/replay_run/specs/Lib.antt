@@ -1,4 +1,5 @@
-pub mod Config
+pub mod Fitting
+pub mod Telling
+pub mod Differing
+pub mod Both
 pub mod Ending
-pub mod Replies
-pub mod Run

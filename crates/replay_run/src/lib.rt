@@ -1,12 +1,15 @@
 #![tactic(auto)]
-//! Replays a script: its commands run on the plain segments, and each gives one line of reply.
+//! Replays a script twice, on plain segments and on real ones, and compares the records of each
+//! command. The replies of the plain run are what is written.
 
-mod config;
+mod both;
+mod differ;
+mod records;
 mod replaying;
-mod reply;
-mod run;
 #[cfg(test)]
 mod tests;
 
-pub use config::ReplayCfg;
-pub use replaying::{Differ, Replayed, replay};
+pub use differ::Differ;
+pub use manager_state::State;
+pub use replay_plain::ReplayCfg;
+pub use replaying::{Replayed, replay};

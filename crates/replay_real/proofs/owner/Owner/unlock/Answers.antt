@@ -1,10 +1,11 @@
-use Rattle.std.proofs.Common.{◌≡◌, refl, sym, ap, subst, ◌∙◌, ◌∷◌, max, ℕ, arith}
+use Rattle.std.proofs.Common.{refl, sym, ap, subst, ◌∙◌, ◌∷◌, max, ℕ, arith}
 use Rattle.machine.specs.declared.event.Event.TheVariants.{Unlock}
 use Rattle.machine.specs.declared.event.Answer.TheVariants.{Idle}
 use Rattle.machine.specs.Kept.{Kept}
 use Rattle.machine.specs.Segments.{Shows}
 use Rattle.machine.proofs.Untouched.{shows_misuse}
 use Rattle.segment.specs.Owned.{Owned}
+use Rattle.page_locks.specs.Locks.{locked_count}
 use Rattle.replay_real.specs.Owner.{kept_by}
 use Rattle.replay_real.proofs.OwnerSteps.{unlock_refused, unlock_taken, still_held_answer, still_held_after, idle_answer, idle_after, holds_some}
 use Rattle.replay_real.proofs.owner.Owner.unlock.Goals as goal
@@ -20,13 +21,13 @@ pub returns-then-staying-gt0-clause-answer : goal.returns-then-staying-gt0-claus
 returns-then-staying-gt0-clause-answer c = λ h s before.
     let kept = kept_by c.self.inside.side c.self.inside.locks in
     let w = subst (λ (k : Kept). Shows h s k) (sym c.self.view_is) before in
-    still_held_answer h s c.args.first c.args.count c.args.at c.count-staying.result kept c.unlock.new.self w
+    still_held_answer h s c.args.first c.args.count c.args.at _ kept c.unlock.new.self w
     (unlock_taken h s c.args.first c.args.count c.args.at kept _ w refl c.if-not-is_locked.ensures refl c.requires)
-    c.unlock.ensures c.count-staying.ensures (omega arith)
+    c.unlock.ensures (omega arith) (omega arith)
 
 pub returns-then-staying-gt0-clause-after : goal.returns-then-staying-gt0-clause-after
 returns-then-staying-gt0-clause-after c = λ h s before.
-    still_held_after h s c.args.first c.args.count c.args.at c.count-staying.result c.self.inside.side c.self.inside.locks c.unlock.new.self
+    still_held_after h s c.args.first c.args.count c.args.at _ c.self.inside.side c.self.inside.locks c.unlock.new.self
     (subst (λ (k : Kept). Shows h s k) (sym c.self.view_is) before) c.unlock.ensures
 
 pub returns-clause-answer : goal.returns-clause-answer
@@ -34,9 +35,9 @@ returns-clause-answer c = λ h s before.
     let kept = kept_by c.self.inside.side c.self.inside.locks in
     let w = subst (λ (k : Kept). Shows h s k) (sym c.self.view_is) before in
     ap Idle (c.last.ensures ∙ ap (λ (o : Owned). o.last) c.unlock-2.ensures)
-    ∙ idle_answer h s c.args.first c.args.count c.args.at c.count-staying.result kept c.unlock.new.self w
+    ∙ idle_answer h s c.args.first c.args.count c.args.at (locked_count c.unlock.new.self) kept c.unlock.new.self w
     (unlock_taken h s c.args.first c.args.count c.args.at kept _ w refl c.if-not-is_locked.ensures refl c.requires)
-    c.unlock.ensures c.count-staying.ensures (omega arith)
+    c.unlock.ensures refl (omega arith)
 
 pub returns-clause-after : goal.returns-clause-after
 returns-clause-after c = λ h s before.

@@ -1,10 +1,10 @@
-use Rattle.std.proofs.Common.{◌≡◌, refl, sym, ap, subst, ◌∙◌, ◌∷◌, length, ℕ, List, true, false}
+use Rattle.std.proofs.Common.{◌≡◌, refl, sym, ap, subst, ◌∙◌, length, ℕ, List, true, false}
 use Rattle.machine.specs.declared.event.Event.TheVariants.{Write}
 use Rattle.machine.specs.History.{put}
 use Rattle.machine.specs.Kept.{Kept}
 use Rattle.machine.specs.Segments.{Shows}
 use Rattle.machine.proofs.Untouched.{shows_misuse}
-use Rattle.machine.proofs.Told.{write_misuse, write_answer, write_told}
+use Rattle.machine.proofs.Told.{write_misuse, write_answer, plain_holds, plain_told}
 use Rattle.replay_real.specs.Owner.{kept_by}
 use Rattle.replay_real.proofs.OwnerSteps.{refill_is, write_after, holds_some}
 use Rattle.replay_real.proofs.owner.Owner.write.Goals as goal
@@ -13,7 +13,7 @@ pub returns-then-not-holds-clause-answer : goal.returns-then-not-holds-clause-an
 returns-then-not-holds-clause-answer c = λ h s before.
     let kept = kept_by c.self.inside.side c.self.inside.locks in
     let w = subst (λ (k : Kept). Shows h s k) (sym c.self.view_is) before in
-    write_misuse h s c.args.place c.args.bytes.now (write_told h s c.args.place c.args.bytes.now kept false w refl (c.if-not-holds.ensures.told h s w.held))
+    write_misuse h s c.args.place c.args.bytes.now (sym (plain_holds h s c.args.place (length c.args.bytes.now) kept false w refl (c.if-not-holds.ensures.told h s (w.held (plain_told h s kept w refl)))))
 
 pub returns-then-not-holds-clause-after : goal.returns-then-not-holds-clause-after
 returns-then-not-holds-clause-after c = λ h s w. shows_misuse h (Write s c.args.place c.args.bytes.now) s c.args.self.now w
@@ -22,7 +22,7 @@ pub returns-clause-answer : goal.returns-clause-answer
 returns-clause-answer c = λ h s before.
     let kept = kept_by c.self.inside.side c.self.inside.locks in
     let w = subst (λ (k : Kept). Shows h s k) (sym c.self.view_is) before in
-    write_answer h s c.args.place c.args.bytes.now (write_told h s c.args.place c.args.bytes.now kept true w refl (c.if-not-holds.ensures.told h s w.held))
+    write_answer h s c.args.place c.args.bytes.now (sym (plain_holds h s c.args.place (length c.args.bytes.now) kept true w refl (c.if-not-holds.ensures.told h s (w.held (plain_told h s kept w refl)))))
 
 pub returns-clause-after : goal.returns-clause-after
 returns-clause-after c = λ h s before.

@@ -1,4 +1,4 @@
-use Rattle.std.proofs.Common.{◌≡◌, sym, ap, subst, ◌∙◌, ◌++◌, ◌∷◌, [], List, length, Some}
+use Rattle.std.proofs.Common.{sym, ap, subst, ◌∙◌, ◌∷◌, List, length, Some}
 use Rattle.machine.specs.declared.event.Event.TheVariants.{Grant}
 use Rattle.machine.specs.declared.event.Answer.TheVariants.{Granted}
 use Rattle.replay_real.specs.declared.owners.Given.{Given}

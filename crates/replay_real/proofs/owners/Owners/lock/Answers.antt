@@ -1,4 +1,4 @@
-use Rattle.std.proofs.Common.{◌≡◌, ◌<◌, refl, sym, ap, subst, ◌∙◌, length, List, arith}
+use Rattle.std.proofs.Common.{refl, sym, ap, subst, length, List, arith}
 use Rattle.machine.specs.declared.event.Event.TheVariants.{Lock}
 use Rattle.replay_real.specs.declared.owners.Given.{Given}
 use Rattle.replay_real.specs.Owners.{ShowsEach}

@@ -1,4 +1,4 @@
-use Rattle.std.proofs.Common.{◌≡◌, sym, ap, subst, ◌∙◌, ◌++◌, ◌∷◌, [], List}
+use Rattle.std.proofs.Common.{sym, ap, subst, ◌∙◌, ◌++◌, ◌∷◌, [], List}
 use Rattle.replay_real.specs.declared.owners.Given.{Given}
 use Rattle.replay_real.specs.Owners.{nobody, ShowsEach}
 use Rattle.replay_real.proofs.TableSteps.{each_new}

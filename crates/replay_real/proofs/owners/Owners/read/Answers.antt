@@ -1,4 +1,4 @@
-use Rattle.std.proofs.Common.{◌≡◌, ◌<◌, sym, ap, ◌∙◌, length, arith}
+use Rattle.std.proofs.Common.{ap, length, arith}
 use Rattle.replay_real.proofs.TableSteps.{unknown_past, not_live}
 use Rattle.replay_real.proofs.owners.Owners.read.Goals as goal
 

@@ -1,4 +1,4 @@
-use Rattle.std.proofs.Common.{◌≡◌, ◌++◌, ℕ, ◌+◌, List, refl, sym, ap, ◌∙◌, subst, ◌∷◌}
+use Rattle.std.proofs.Common.{◌++◌, ℕ, ◌+◌, List, sym, ap, ◌∙◌, subst, ◌∷◌}
 use Rattle.std.proofs.lemmas.Result.{on_ok_weaker}
 use Rattle.machine.specs.declared.event.Event.TheVariants.{Grant}
 use Rattle.machine.specs.declared.event.Answer.TheVariants.{Granted}

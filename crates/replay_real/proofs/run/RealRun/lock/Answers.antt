@@ -1,4 +1,4 @@
-use Rattle.std.proofs.Common.{inl, inr, ⊎_elim, ◌≡◌, ◌++◌, List, refl, sym, ap, ◌∙◌, subst, ◌∷◌}
+use Rattle.std.proofs.Common.{inl, inr, ⊎_elim, ◌++◌, ap, ◌∙◌, subst, ◌∷◌}
 use Rattle.std.proofs.lemmas.Result.{on_ok_weaker}
 use Rattle.machine.specs.declared.event.Event.TheVariants.{Lock}
 use Rattle.machine.specs.declared.event.Answer.{Answer}

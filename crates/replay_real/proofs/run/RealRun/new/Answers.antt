@@ -1,5 +1,3 @@
-use Rattle.std.proofs.Common.{◌≡◌, refl, sym, ap, ◌∙◌}
-use Rattle.discard_book.specs.Live.{grants, granted}
 use Rattle.replay_real.proofs.Following.{stands_first}
 use Rattle.replay_real.proofs.run.RealRun.new.Goals as goal
 

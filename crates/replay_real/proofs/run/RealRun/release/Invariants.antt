@@ -1,5 +1,3 @@
-use Rattle.replay_real.specs.Standing.{Grows}
-use Rattle.replay_real.specs.Acts.{ReleasesBelow}
 use Rattle.replay_real.proofs.Releasing.{Keeps}
 use Rattle.replay_real.proofs.run.RealRun.release.Given as goal
 

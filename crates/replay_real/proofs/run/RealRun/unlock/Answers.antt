@@ -1,4 +1,4 @@
-use Rattle.std.proofs.Common.{◌≡◌, ◌++◌, List, refl, sym, ap, ◌∙◌, subst, ◌∷◌}
+use Rattle.std.proofs.Common.{◌++◌, ap, ◌∙◌, subst, ◌∷◌}
 use Rattle.std.proofs.lemmas.Result.{on_ok_weaker}
 use Rattle.machine.specs.declared.event.Event.TheVariants.{Unlock}
 use Rattle.machine.specs.declared.event.Answer.{Answer}
