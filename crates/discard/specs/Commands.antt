@@ -2,8 +2,8 @@
 use Rattle.std.specs.Prelude.{ℕ, ◌==◌, ◌||◌, if◌then◌else◌, List, [], ◌∷◌, codes, bytes_eq, Option, Some, None, option_and_then}
 use Rattle.line_text.specs.declared.limits.TheConstants.{MOST_LIMIT}
 use Rattle.line_text.specs.Number.{number_in}
-use Rattle.replay_run.specs.declared.config.ReplayCfg.{ReplayCfg}
-use Rattle.replay_run.specs.Config.{default_settings}
+use Rattle.replay_plain.specs.declared.config.ReplayCfg.{ReplayCfg}
+use Rattle.replay_plain.specs.Config.{default_settings}
 use Rattle.tile_source.specs.declared.limits.TheConstants.{MOST_ZOOM, LAST_TILE}
 use Rattle.tile_source.specs.declared.tile.Tile.{Tile}
 use Rattle.discard.specs.Words.{GivenWords, words_given, value_of}

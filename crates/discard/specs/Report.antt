@@ -4,7 +4,7 @@ use Rattle.units.specs.Count.{HasRisen}
 use Rattle.discard_io.specs.declared.status.Status.{Status}
 use Rattle.discard_io.specs.declared.status.Status.TheVariants.{Done, NoMemory, Usage, BadInput, ReadFault, WriteFault, FileFault}
 use Rattle.discard_io.specs.Streams.{appended, WroteFront}
-use Rattle.replay_run.specs.declared.replaying.Differ.{Differ}
+use Rattle.replay_run.specs.declared.differ.Differ.{Differ}
 use Rattle.discard.specs.declared.top.Ended.{Ended}
 use Rattle.discard.specs.declared.top.Run.{Run}
 use Rattle.discard.specs.declared.top.Run.TheVariants.{Nothing, Replay}

@@ -2,7 +2,7 @@
 use Rattle.std.specs.Prelude.{◌≡◌, ℕ, ◌≤◌, List, Option, Some, None}
 use Rattle.discard_io.specs.declared.status.Status.{Status}
 use Rattle.discard_io.specs.declared.status.Status.TheVariants.{Done, Usage}
-use Rattle.replay_run.specs.declared.config.ReplayCfg.{ReplayCfg}
+use Rattle.replay_plain.specs.declared.config.ReplayCfg.{ReplayCfg}
 use Rattle.replay_run.specs.declared.replaying.Replayed.{Replayed}
 use Rattle.replay_run.specs.Ending.{Devices, devices, Ends}
 use Rattle.tile_source.specs.declared.tile.Tile.{Tile}

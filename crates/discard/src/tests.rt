@@ -126,16 +126,11 @@ fn is_refused<H: Threads + Wait + Sync>(
 #[test]
 fn replays_hand_on_what_they_answered(rt: HostRuntime) -> Result<(), Fail> {
     let alloc = rt.alloc();
-    assert!(rt; replays(&rt, alloc, "replay", "", "")?);
-    let script = "grant 1 1 1\ntry 1 9";
+    let script = "grant 1 2 1\nunlock 1 0 2 3\nenforce 4\ngranted";
+    let replies = "segment 1\nidle 3\nreduced 0 - 1\ngranted 0\n";
     assert!(rt;
-        replays(
-            &rt,
-            alloc,
-            "replay --limit=0 --keep 256",
-            script,
-            "segment 1\nused 9\n"
-        )?
+        replays(&rt, alloc, "replay", "", "")?
+            && replays(&rt, alloc, "replay --limit=1 --keep 256", script, replies)?
     );
     Ok(())
 }
@@ -152,6 +147,7 @@ fn differing(alloc: Global, fails: &[u64]) -> Result<(Status, MemSink), Fail> {
     let replayed = Replayed {
         status: Status::Done,
         differs: Some(differ),
+        state: None,
     };
     let ran = Ended {
         status: Status::Done,
@@ -178,10 +174,12 @@ fn runs_that_differ_are_told(rt: HostRuntime) -> Result<(), Fail> {
 fn tiles_are_means_of_samples(rt: HostRuntime) -> Result<(), Fail> {
     let alloc = rt.alloc();
     let one = b"P5 1 1 255\n\xc8";
-    assert!(rt; tile_is(&rt, alloc, "tile a.pgm 0 0 0 --side 64", one, 200)?);
-    assert!(rt; tile_is(&rt, alloc, "tile --side=64 a.pgm 1 0 0", one, 50)?);
-    assert!(rt; tile_is(&rt, alloc, "tile a.pgm 6 --side=64 0 0", one, 0)?);
-    assert!(rt; tile_is(&rt, alloc, "tile a.pgm 0 1 0 --side=64 --", one, 0)?);
+    assert!(rt;
+        tile_is(&rt, alloc, "tile a.pgm 0 0 0 --side 64", one, 200)?
+            && tile_is(&rt, alloc, "tile --side=64 a.pgm 1 0 0", one, 50)?
+            && tile_is(&rt, alloc, "tile a.pgm 6 --side=64 0 0", one, 0)?
+            && tile_is(&rt, alloc, "tile a.pgm 0 1 0 --side=64 --", one, 0)?
+    );
     let mut white = Vec::from_slice(alloc, b"P5 64 64 255\n")?;
     white.resize(4109, 255)?;
     assert!(rt; tile_is(&rt, alloc, "tile --side=64 -- --x 6 0 0", &white, 255)?);
@@ -211,41 +209,10 @@ fn other_words_are_usage(rt: HostRuntime) -> Result<(), Fail> {
 #[test]
 fn refused_scripts_say_where_and_why(rt: HostRuntime) -> Result<(), Fail> {
     let alloc = rt.alloc();
+    let (word, number) = ("grnt 1 1 1", "# a\n\ngrant 0 1 1");
     assert!(rt;
-        is_refused(
-            &rt,
-            alloc,
-            "replay",
-            "grnt 1 1 1",
-            "discard: bad input 1 1\n"
-        )?
-    );
-    assert!(rt;
-        is_refused(
-            &rt,
-            alloc,
-            "replay",
-            "grant 1 1",
-            "discard: bad input 1 2\n"
-        )?
-    );
-    assert!(rt;
-        is_refused(
-            &rt,
-            alloc,
-            "replay",
-            "# a\n\ngrant 0 1 1",
-            "discard: bad input 3 3\n",
-        )?
-    );
-    assert!(rt;
-        is_refused(
-            &rt,
-            alloc,
-            "replay",
-            "write 1 0 abc",
-            "discard: bad input 1 4\n"
-        )?
+        is_refused(&rt, alloc, "replay", word, "discard: bad input 1 1\n")?
+            && is_refused(&rt, alloc, "replay", number, "discard: bad input 3 3\n")?
     );
     Ok(())
 }

@@ -14,7 +14,7 @@ use std::sync::Wait;
 use std::thread::Threads;
 
 /// What a run handed on.
-#[derive(Debug, Drop)]
+#[derive(Drop)]
 pub enum Run {
     /// The run ended before it was done, or has nothing to hand on.
     Nothing,
@@ -23,7 +23,7 @@ pub enum Run {
 }
 
 /// How a run ended.
-#[derive(Debug, Drop)]
+#[derive(Drop)]
 pub struct Ended {
     pub status: Status,
     pub run: Run,
