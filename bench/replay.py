@@ -6,7 +6,8 @@
 A program is by default the built one, crates/discard/out/discard; where several are named, as an older build and a newer
 one, each is measured. The programs and scripts take turns, an empty script among them, many times over. Of each script the
 time is its processor time less that of the empty script in the same turn, so that the start of a process is left out: printed
-are the median over all turns and, in parentheses, the quartiles. Where a quarter of these differences is not above 0, the
+are the median over all turns and, in parentheses, the quartiles; the scripts of pressure, which take seconds, have three
+turns. Where a quarter of these differences is not above 0, the
 script took less than what the machine's noise hides. Before, the replies are compared with what the script must give. A program
 that does not know a script's commands or options is left out there.
 """
@@ -88,8 +89,9 @@ def text(lines):
 
 
 class Script:
-    def __init__(self, folder, name, lines, replies=None, limit=None):
+    def __init__(self, folder, name, lines, replies=None, limit=None, turns=TURNS):
         self.name = name
+        self.turns = turns
         self.words = ["replay"] if limit is None else ["replay", "--limit", str(limit)]
         if replies is None:
             most = model.MOST_LIMIT if limit is None else limit
@@ -111,7 +113,7 @@ def scripts(folder):
     yield Script(folder, "1 MiB", *long_script())
     for count in SEGMENTS:
         yield Script(folder, f"low limit {count}", low_limit(count), limit=count // 2)
-        yield Script(folder, f"pressure {count}", *pressure(count))
+        yield Script(folder, f"pressure {count}", *pressure(count), turns=3)
 
 
 def knows(program, script):
@@ -130,10 +132,10 @@ def main():
         every = list(scripts(folder))
         known = {(program, script.name) for program in named for script in every if knows(program, script)}
         times = {both: [] for both in known}
-        for _ in range(TURNS):
+        for turn in range(TURNS):
             for script in every:
                 for program in named:
-                    if (program, script.name) in known:
+                    if turn < script.turns and (program, script.name) in known:
                         times[program, script.name].append(spent([program, *script.words], script.path, os.devnull))
         for program in named:
             tell(folder, program, every, {name: found for (of, name), found in times.items() if of == program})
