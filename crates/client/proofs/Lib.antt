@@ -1,0 +1,15 @@
+pub mod Rows
+pub mod Pages
+pub mod KeptThrough
+pub mod PlacesFound
+pub mod PiecesStay
+pub mod LeaseSteps
+pub mod OneStep
+pub mod PieceCalls
+pub mod Searching
+pub mod Sweeping
+pub mod ComingAndKept
+pub mod FrontGrows
+pub mod Debts
+pub mod GivingBack
+pub mod Allocating

@@ -1,0 +1,22 @@
+use Rattle.std.proofs.Common.{arith, ap, ◌∙◌, length}
+use Rattle.client.specs.Seen.{Seen}
+use Rattle.client.proofs.GivingBack.{balanced_told, balanced_returned, settled}
+use Rattle.client.proofs.granted.Granted.close_with.Goals as goal
+
+pub returns-clause-settled : goal.returns-clause-settled
+returns-clause-settled g c =
+    let back = balanced_returned _ _ _ _ _ _ _ _ _ _ _ c.self.invariant.0 c.give_back_all.ensures.returns c.give_back_all.ensures.grants c.give_back_all.ensures.greatest in
+    let told = balanced_told _ _ _ _ _ _ _ _ _ _ _ back c.tell_all.ensures.client c.tell_all.ensures.returns c.tell_all.ensures.grants c.tell_all.ensures.greatest in
+    let none = ap (λ (s : Seen). s.leases) c.tell_all.ensures.client ∙ c.give_back_all.ensures.none in
+    let all = ap (λ (s : Seen). s.told) c.tell_all.ensures.client in
+    let gone = ap (λ (s : Seen). length s.gone) c.tell_all.ensures.client in
+    rw (← c.self.view_is) (settled _ _ _ _ _ _ c.tell_all.new.client told none (omega (arith, all, gone)))
+
+pub returns-clause-standing : goal.returns-clause-standing
+returns-clause-standing g c =
+    rw (← c.self.view_is) (c.tell_all.ensures.standing ∙ (c.give_back_all.ensures.standing ∙ c.self.invariant.1))
+
+pub returns-clause-kept : goal.returns-clause-kept
+returns-clause-kept g c =
+    let gone = c.into_gone.ensures.sides ∙ ap (λ (s : Seen). s.gone) c.tell_all.ensures.client in
+    rw (← c.self.view_is, c.of-gone.ensures, gone) c.give_back_all.ensures.returns.gone

@@ -1,0 +1,14 @@
+use Rattle.std.proofs.Common.{◌≡◌, length}
+use Rattle.client.specs.Granting.{Returns}
+use Rattle.client.proofs.returning.give_back_all.Given as goal
+
+abbrev pub invariant-loop-side : goal.invariant-loop-side
+invariant-loop-side g l = record {
+  returns : Returns (g.G.Granter.returns l.fn.granter) (g.G.Granter.returns l.granter) l.fn.client l.client;
+  grants : g.G.Granter.grants l.granter ≡ g.G.Granter.grants l.fn.granter;
+  greatest : g.G.Granter.greatest l.granter ≡ g.G.Granter.greatest l.fn.granter;
+  standing : g.G.Granter.standing l.granter ≡ g.G.Granter.standing l.fn.granter;
+}
+
+abbrev pub decreases-loop-side : goal.decreases-loop-side
+decreases-loop-side g l = length l.client.leases

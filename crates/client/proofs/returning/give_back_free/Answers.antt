@@ -1,0 +1,41 @@
+use Rattle.std.proofs.Common.{true, false, refl, arith, ◌∙◌}
+use Rattle.client.proofs.PieceCalls.{all_on}
+use Rattle.client.proofs.PiecesStay.{stays_as_it_is}
+use Rattle.client.proofs.GivingBack.{returns_start, returns_on, giving_whole, giving_gone, giving_fewer}
+use Rattle.client.proofs.returning.give_back_free.Goals as goal
+
+pub give_back_side-requires-clause-taken : goal.give_back_side-requires-clause-taken
+give_back_side-requires-clause-taken g c = omega (arith, c.in-Some.ensures.taken.2.taken)
+
+pub loop-side-init : goal.loop-side-init
+loop-side-init g c = record { returns = returns_start _ _; whole = λ low. omega arith; stay = stays_as_it_is _; grants = refl; greatest = refl; standing = refl }
+
+pub loop-side-preserved-then-give_back_side : goal.loop-side-preserved-then-give_back_side
+loop-side-preserved-then-give_back_side g c =
+    let gives = rw c.if-give_back_side.true at c.give_back_side.ensures.client in
+    record {
+      returns = returns_on true _ _ c.take_free.new.self _ _ _ _ c.in-Some.ensures.taken.0 c.in-Some.side c.loop-side.invariant.returns c.in-Some.ensures.taken.2 gives c.give_back_side.ensures.returns;
+      whole = giving_whole c.args.client.now c.loop-side.client c.take_free.new.self c.give_back_side.new.client c.loop-side.whole _ c.in-Some.ensures.taken.0 c.in-Some.side c.loop-side.invariant.whole c.in-Some.ensures.taken.2 gives c.saturating_add-whole.ensures;
+      stay = all_on _ c.take_free.new.self _ (all_on _ c.loop-side.client _ c.loop-side.invariant.stay c.take_free.ensures.stay) c.give_back_side.ensures.stay;
+      grants = c.give_back_side.ensures.grants ∙ c.loop-side.invariant.grants;
+      greatest = c.give_back_side.ensures.greatest ∙ c.loop-side.invariant.greatest;
+      standing = c.give_back_side.ensures.standing ∙ c.loop-side.invariant.standing;
+    }
+
+pub loop-side-preserved : goal.loop-side-preserved
+loop-side-preserved g c =
+    let gives = rw c.if-give_back_side.false at c.give_back_side.ensures.client in
+    record {
+      returns = returns_on false _ _ c.take_free.new.self _ _ _ _ c.in-Some.ensures.taken.0 c.in-Some.side c.loop-side.invariant.returns c.in-Some.ensures.taken.2 gives c.give_back_side.ensures.returns;
+      whole = giving_gone c.args.client.now c.loop-side.client c.take_free.new.self c.give_back_side.new.client c.loop-side.whole c.in-Some.ensures.taken.0 c.in-Some.side c.loop-side.invariant.whole c.in-Some.ensures.taken.2 gives;
+      stay = all_on _ c.take_free.new.self _ (all_on _ c.loop-side.client _ c.loop-side.invariant.stay c.take_free.ensures.stay) c.give_back_side.ensures.stay;
+      grants = c.give_back_side.ensures.grants ∙ c.loop-side.invariant.grants;
+      greatest = c.give_back_side.ensures.greatest ∙ c.loop-side.invariant.greatest;
+      standing = c.give_back_side.ensures.standing ∙ c.loop-side.invariant.standing;
+    }
+
+pub loop-side-smaller-then-give_back_side : goal.loop-side-smaller-then-give_back_side
+loop-side-smaller-then-give_back_side g c = giving_fewer c.give_back_side.result _ c.take_free.new.self _ c.in-Some.ensures.taken.0 c.in-Some.side c.in-Some.ensures.taken.2 c.give_back_side.ensures.client
+
+pub loop-side-smaller : goal.loop-side-smaller
+loop-side-smaller g c = giving_fewer c.give_back_side.result _ c.take_free.new.self _ c.in-Some.ensures.taken.0 c.in-Some.side c.in-Some.ensures.taken.2 c.give_back_side.ensures.client

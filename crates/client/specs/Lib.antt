@@ -1,0 +1,11 @@
+pub mod Gone
+pub mod Lease
+pub mod Seen
+pub mod Places
+pub mod Pieces
+pub mod Calls
+pub mod Coming
+pub mod Finding
+pub mod Kept
+pub mod Sizes
+pub mod Granting

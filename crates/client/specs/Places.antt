@@ -1,0 +1,35 @@
+-- Where a segment stands among those of a client.
+use Rattle.std.specs.Prelude.{◌≡◌, ◌<◌, ℕ, false, List, length, Option, Some, MatchOption, slice_get}
+use Rattle.span_heap.specs.Changes.{NoneIn}
+use Rattle.client.specs.Lease.{Lease}
+use Rattle.client.specs.Seen.{Seen, has_lease}
+
+-- a segment of this number stands among those of the client
+pub record StandsAt (leases : List Lease) (id : ℕ) : Type 0 where
+  pub place : ℕ
+  pub lease : Lease
+  pub stands : slice_get leases place ≡ Some lease
+  pub number : lease.side.id ≡ id
+
+-- the segment of this number stands at the place
+abbrev pub IsThere : ℕ → ℕ → List Lease → Type 0
+IsThere place id leases = (lease : Lease) × (slice_get leases place ≡ Some lease) × (lease.side.id ≡ id)
+
+-- the place of the segment of this number, or none where no segment has it
+abbrev pub IsPlaceOf : List Lease → ℕ → Option ℕ → Type 0
+IsPlaceOf leases id found = MatchOption found (has_lease leases id ≡ false) (λ place. IsThere place id leases)
+
+-- each segment before this place has a used span
+abbrev pub AreUsedBefore : ℕ → Seen → Type 0
+AreUsedBefore place seen = (earlier : ℕ) (lease : Lease) → earlier < place → slice_get seen.leases earlier ≡ Some lease → NoneIn lease.side.id seen.heap.used → ⊥
+
+-- the segment at this place is the first that has no used span
+pub record IsFirstFree (place : ℕ) (seen : Seen) : Type 0 where
+  pub lease : Lease
+  pub stands : slice_get seen.leases place ≡ Some lease
+  pub free : NoneIn lease.side.id seen.heap.used
+  pub first : AreUsedBefore place seen
+
+-- each segment has a used span
+abbrev pub NoneAllFree : Seen → Type 0
+NoneAllFree seen = AreUsedBefore (length seen.leases) seen
