@@ -7,9 +7,9 @@ A program is by default the built one, crates/discard/out/discard; where several
 one, each is measured. The programs and scripts take turns, an empty script among them, many times over. Of each script the
 time is its processor time less that of the empty script in the same turn, so that the start of a process is left out: printed
 are the median over all turns and, in parentheses, the quartiles; the scripts of pressure, which take seconds, have three
-turns. Where a quarter of these differences is not above 0, the
-script took less than what the machine's noise hides. Before, the replies are compared with what the script must give. A program
-that does not know a script's commands or options is left out there.
+turns. Where a quarter of these differences is not above 0, the script took less than what the machine's noise hides. Before,
+the replies are compared with what the script must give. A program that does not know a script's commands or options is left
+out there.
 """
 
 import os
