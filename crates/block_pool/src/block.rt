@@ -1,4 +1,4 @@
-ghost use Rattle.std.specs.Prelude.{◌≡◌, ◌≤◌, IfOk};
+ghost use Rattle.std.specs.Prelude.{◌≡◌, ◌≤◌, ◌+◌, IfOk, take, drop, length};
 ghost use Rattle.std.specs.Borrow.{sem};
 ghost use Rattle.block_pool.specs.Block.{page_count, IsBlock, IsZero};
 ghost use Rattle.units.specs.declared.TheConstants.{MOST_PAGES};
@@ -38,7 +38,7 @@ impl fmt::Debug for Block {
 }
 
 impl Block {
-    ghost use Rattle.block_pool.specs.Lending.{LendsBytes};
+    ghost use Rattle.block_pool.specs.Lending.{LendsBytes, LendsPart};
 
     /// A new block of `pages` pages, all bytes zero.
     pub(crate) fn new(alloc: Global, pages: u32) -> Result<Block, NoMemory>
@@ -75,6 +75,16 @@ impl Block {
         ensures block { IsBlock self.old }
     {
         self.bytes.as_mut_slice()
+    }
+
+    /// A part of its bytes, `count` of them from a place on, to be written.
+    pub fn part_mut(&mut self, place: usize, count: usize) -> &mut [u8]
+        requires inside { place + count ≤ length self.old }
+        ensures* writes_back { sem 𝓛 (LendsPart self.entry place result) }
+        ensures value { result.now ≡ take count (drop place self.old) }
+        ensures block { IsBlock self.old }
+    {
+        self.bytes.slice_mut(place..place + count)
     }
 
     /// Makes all its bytes zero.

@@ -1,4 +1,4 @@
-ghost use Rattle.std.specs.Prelude.{◌≡◌, ◌≢◌, Some, [], length};
+ghost use Rattle.std.specs.Prelude.{◌≡◌, ◌≢◌, ◌≤◌, ◌+◌, Some, [], length, take, drop};
 ghost use Rattle.std.specs.Borrow.{sem};
 ghost use Rattle.units.specs.Moment.{IsMoment};
 ghost use Rattle.segment.specs.Owned.{Owned, IsOwned, AfterLock, after_unlock, AfterLook, HasPages};
@@ -64,7 +64,7 @@ impl Model for OwnerSide {
 }
 
 impl OwnerSide {
-    ghost use Rattle.segment.specs.Lending.{LendsBytes};
+    ghost use Rattle.segment.specs.Lending.{LendsBytes, LendsPart};
 
     /// A side that holds this block.
     pub(crate) fn held(seat: OwnerSeat, block: Block, id: u64, pages: u32) -> OwnerSide
@@ -190,6 +190,20 @@ impl OwnerSide {
             unreachable!()
         };
         block.bytes_mut()
+    }
+
+    /// A part of the bytes of a segment that is held, `count` of them from a place on, to be written.
+    pub fn part_mut(&mut self, place: usize, count: usize) -> &mut [u8]
+        requires held { self.old.phase ≡ Held }
+        requires inside { place + count ≤ length self.old.bytes }
+        ensures* writes_back { sem 𝓛 (LendsPart self.entry place result) }
+        ensures value { result.now ≡ take count (drop place self.old.bytes) }
+        ensures pages { HasPages self.old }
+    {
+        let Some(block) = &mut self.block else {
+            unreachable!()
+        };
+        block.part_mut(place, count)
     }
 
     /// The block of a segment that is held.
