@@ -14,7 +14,12 @@ use Rattle.client.specs.Finding.{Finds, Serves, Carves}
 use Rattle.segment.specs.Owned.{Owned}
 use Rattle.span_heap.specs.Segment.{Segment}
 use Rattle.client.specs.Gone.{Includes}
-use Rattle.client.specs.Granting.{Allocates, Grows, Releases, granted_pages}
+use Rattle.std.specs.Prelude.{Result, Ok, Err, OnErr}
+use Rattle.client.specs.declared.piece.Piece.{Piece}
+use Rattle.client.specs.declared.granted.ClientFault.{ClientFault}
+use Rattle.client.specs.declared.granted.ClientFault.TheVariants as fault
+use Rattle.client.specs.Sizes.{wanted}
+use Rattle.client.specs.Granting.{Session, Allocates, Grows, Misses, IsOutOfMemory, Releases, granted_pages}
 use Rattle.client.proofs.Debts.{debt_found, debt_swept}
 use Rattle.client.proofs.Sweeping.{size_dropped}
 
@@ -88,3 +93,14 @@ gone_released lost old new releases weight =
 
 pub includes_on : (one two three : List Owned) → Includes one two → Includes two three → Includes one three
 includes_on one two three first second weight = omega (arith, first weight, second weight)
+
+-- what holds anyhow holds after an error
+pub on_error : {A E : Type 0} (r : Result A E) (P : Type 0) → P → OnErr r P
+on_error (Ok x) P p = tt
+on_error (Err e) P p = p
+
+-- a search that found nothing, and a release
+pub out_of_memory : {G : Type 0} (bytes pages : ℕ) (r : Result Piece ClientFault) (old new : Session G) → wanted bytes ≡ Some pages → Misses pages old.client new.client → IsOutOfMemory bytes r old new
+out_of_memory bytes pages (Ok piece) old new sized misses = tt
+out_of_memory bytes pages (Err fault.NoMemory) old new sized misses = (pages, sized, misses)
+out_of_memory bytes pages (Err (fault.TooLarge n)) old new sized misses = tt

@@ -11,5 +11,7 @@ pub mod Sweeping
 pub mod ComingAndKept
 pub mod FrontGrows
 pub mod Debts
+pub mod Writing
 pub mod GivingBack
+pub mod FreeOnesLeft
 pub mod Allocating

@@ -61,7 +61,7 @@ content_here (l ∷ leases) (suc p) lease at alone =
     rw away (content_here leases p lease at (λ q other bt e. let s = alone (suc q) other bt e in omega (arith, s)))
 
 -- what a piece needs to stay where a segment turned
-stands_turned : (old new : Seen) (p : ℕ) (lease turned : Lease) (part : Part) → slice_get old.leases p ≡ Some lease → turned.side.id ≡ lease.side.id → Turns p turned old new
+pub stands_turned : (old new : Seen) (p : ℕ) (lease turned : Lease) (part : Part) → slice_get old.leases p ≡ Some lease → turned.side.id ≡ lease.side.id → Turns p turned old new
     → (part.run.segment ≡ lease.side.id → IsRange part.locked lease.locks part.run.first part.run.pages → IsRange part.locked turned.locks part.run.first part.run.pages) → IsLive old part → IsLive new part
 stands_turned old new p lease turned part at same turns range live =
     elim (cases_same live.stands.place p) [

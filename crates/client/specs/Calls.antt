@@ -1,5 +1,5 @@
 -- What the calls of a client change.
-use Rattle.std.specs.Prelude.{◌≡◌, ◌⊎◌, ℕ, ◌+◌, Bool, true, List, [], ◌∷◌, ◌++◌, length, slice_set, slice_get, Some, MatchBool}
+use Rattle.std.specs.Prelude.{◌≡◌, ◌⊎◌, ℕ, ◌+◌, ◌-◌, Bool, true, List, [], ◌∷◌, ◌++◌, length, slice_set, slice_get, Some, MatchBool}
 use Rattle.std.specs.List.{remove}
 use Rattle.segment.specs.Owned.{Owned}
 use Rattle.segment.specs.declared.owner.Phase.TheVariants as phase
@@ -11,6 +11,7 @@ use Rattle.span_heap.specs.Changes.{Drops, Frees}
 use Rattle.client.specs.Lease.{Lease, LocksPages, UnlocksPages, LooksAt}
 use Rattle.client.specs.Seen.{Seen}
 use Rattle.client.specs.Pieces.{Part, IsLive, IsDead}
+use Rattle.client.specs.Places.{IsFirstFree}
 use Rattle.client.specs.declared.answers.Unlocked.{Unlocked}
 
 -- no side was found gone, told, taken out or kept
@@ -105,6 +106,14 @@ pub record TakesOut (place : ℕ) (side : Owned) (old new : Seen) : Type 0 where
   pub gone : new.gone ≡ old.gone
   pub told : new.told ≡ old.told
   pub taken : new.taken ≡ old.taken + 1
+
+-- the oldest segment that is all free was taken out, with its side
+abbrev pub TakesFirstFree : Owned → Seen → Seen → Type 0
+TakesFirstFree side old new = (place : ℕ) × (IsFirstFree place old) × TakesOut place side old new
+
+-- the segment that came last was taken out, with its side
+abbrev pub TakesLast : Owned → Seen → Seen → Type 0
+TakesLast side old new = TakesOut (length old.leases - 1) side old new
 
 -- the heap has the segment at a place
 abbrev pub HasSegment : ℕ → List Lease → Contents → Type 0

@@ -1,5 +1,5 @@
 -- A search for pages, the coming of a segment, and a look at all segments.
-use Rattle.std.specs.Prelude.{◌≡◌, ℕ, ◌-◌, ◌≤◌, nat_lt, Bool, true, List, [], ◌∷◌, ◌++◌, Option, Some, None, MatchBool, MatchOption}
+use Rattle.std.specs.Prelude.{◌≡◌, ℕ, ◌-◌, ◌≤◌, nat_lt, Bool, true, List, [], ◌∷◌, ◌++◌, Option, Some, None, MatchBool, MatchOption, length}
 use Rattle.segment.specs.Owned.{Owned}
 use Rattle.segment.specs.declared.owner.Lock.TheVariants.{Held, Gone}
 use Rattle.page_locks.specs.Locks.{page_count, is_page_locked}
@@ -77,7 +77,7 @@ abbrev pub dropped_all : List Owned → List Run → List Run
 dropped_all [] runs = runs
 dropped_all (side ∷ sides) runs = dropped_all sides (dropped runs side.id)
 
--- each segment was looked at, and those of these sides were found gone and left; no page came
+-- Each segment was looked at, and those of these sides were found gone and left; no page came
 pub record SweepsAll (lost : List Owned) (old new : Seen) : Type 0 where
   pub leases : Sweeps old.leases new.leases lost
   pub free : new.heap.free ≡ dropped_all lost old.heap.free
@@ -86,3 +86,7 @@ pub record SweepsAll (lost : List Owned) (old new : Seen) : Type 0 where
   pub taken : new.taken ≡ old.taken
   pub name : KeepsName old new
   pub size : size_of new.heap.segments ≤ size_of old.heap.segments
+
+-- each segment was looked at, and so many were found gone and left
+abbrev pub SweepsSome : ℕ → Seen → Seen → Type 0
+SweepsSome count old new = (lost : List Owned) × (count ≡ length lost) × SweepsAll lost old new

@@ -1,5 +1,6 @@
 -- What is seen of a client over what grants its segments, and what its calls do.
-use Rattle.std.specs.Prelude.{◌≡◌, ◌≢◌, ◌⊎◌, ℕ, ◌+◌, ◌-◌, ◌^◌, ◌<◌, ◌≤◌, max, List, length, All, Some, None, Bool, MatchBool}
+use Rattle.std.specs.Prelude.{◌≡◌, ◌≢◌, ◌⊎◌, ℕ, ◌+◌, ◌-◌, ◌^◌, ◌<◌, ◌≤◌, max, ⊤, List, length, All, Some, None, Bool, MatchBool}
+use Rattle.units.specs.Count.{next_count}
 use Rattle.segment.specs.Owned.{Owned, IsGranted}
 use Rattle.std.specs.Prelude.{Result, Err}
 use Rattle.client.specs.declared.piece.Piece.{Piece}
@@ -77,9 +78,23 @@ pub record Grows (pages : ℕ) (part : Part) (old new : Seen) : Type 0 where
   pub releases : Releases swept missed released
   pub grown : GrowsBy pages part released new
 
+-- A search found no pages, and segments that were purged were released; nothing else changed.
+pub record Misses (pages : ℕ) (old new : Seen) : Type 0 where
+  pub missed : Seen
+  pub lost : List ℕ
+  pub finds : Finds pages lost None old missed
+  pub swept : List Owned
+  pub releases : Releases swept missed new
+
 -- an allocation of some pages: a free run serves, or a new segment
 abbrev pub Allocates : ℕ → Part → Seen → Seen → Type 0
 Allocates pages part old new = ((lost : List ℕ) × Finds pages lost (Some part) old new) ⊎ Grows pages part old new
+
+-- the same, with the count of the segments granted: none came where a free run serves, and else one
+abbrev pub AllocatesCounted : {G : Type 0} → ℕ → Part → Session G → Session G → Type 0
+AllocatesCounted pages part old new =
+    ((lost : List ℕ) × Finds pages lost (Some part) old.client new.client × (new.grants ≡ old.grants))
+    ⊎ (Grows pages part old.client new.client × (new.grants ≡ next_count old.grants))
 
 -- a side that was given up came back whole, or it is gone and kept
 abbrev pub GivesSide : Bool → ℕ → Seen → Seen → Type 0
@@ -108,3 +123,8 @@ CameWhole whole old new = whole < LAST_COUNT → whole + length new.leases + len
 abbrev pub IsTooLarge : {G : Type 0} → ℕ → Result Piece ClientFault → Session G → Session G → Type 0
 IsTooLarge bytes (Err (fault.TooLarge pages)) old new = (wanted bytes ≡ None) × (pages ≡ pages_for bytes) × (new ≡ old)
 IsTooLarge bytes other old new = wanted bytes ≢ None
+
+-- out of memory: the client is as a search that found nothing and a release left it
+abbrev pub IsOutOfMemory : {G : Type 0} → ℕ → Result Piece ClientFault → Session G → Session G → Type 0
+IsOutOfMemory bytes (Err fault.NoMemory) old new = (pages : ℕ) × (wanted bytes ≡ Some pages) × Misses pages old.client new.client
+IsOutOfMemory bytes other old new = ⊤

@@ -1,9 +1,9 @@
 -- A segment that a client has: its owner's side with the locks of its pages, and what a lock, an unlock and a look do to both.
-use Rattle.std.specs.Prelude.{◌≡◌, ◌≢◌, ℕ, ◌+◌, ◌*◌, ◌<◌, nat_lt, Bool, List, ◌++◌, take, drop, MatchBool, if◌then◌else◌}
-use Rattle.std.specs.List.{refill}
+use Rattle.std.specs.Prelude.{◌≡◌, ◌≢◌, ℕ, ◌+◌, ◌*◌, ◌<◌, nat_lt, Bool, List, take, drop, MatchBool, if◌then◌else◌}
 use Rattle.units.specs.declared.TheConstants.{PAGE}
 use Rattle.page_locks.specs.Locks.{page_count, locked_count, LocksRange, UnlocksRange}
 use Rattle.segment.specs.Owned.{Owned, AfterLock, AfterLook, after_unlock}
+use Rattle.segment.specs.Lending.{with_written}
 use Rattle.segment.specs.declared.owner.Phase.TheVariants as phase
 use Rattle.segment.specs.declared.owner.Lock.{Lock}
 use Rattle.segment.specs.declared.owner.Lock.TheVariants.{Held, Gone}
@@ -60,9 +60,9 @@ pub record LooksAt (there : Bool) (old new : Lease) : Type 0 where
 abbrev pub pages_at : ℕ → ℕ → List ℕ → List ℕ
 pages_at first count bytes = take (PAGE * count) (drop (PAGE * first) bytes)
 
--- the bytes with those of some pages written anew, and all others as they were
-abbrev pub with_pages : ℕ → ℕ → List ℕ → List ℕ → List ℕ
-with_pages first count bytes new = take (PAGE * first) bytes ++ refill (PAGE * count) (pages_at first count bytes) new ++ drop (PAGE * (first + count)) bytes
+-- the segment with bytes written over those in its hand, from a page on
+abbrev pub with_bytes : ℕ → List ℕ → Lease → Lease
+with_bytes first w lease = record lease { side = with_written lease.side (PAGE * first) w }
 
 -- what the segment has in its pages: the bytes in its hand while some page is locked, and else those left at the last unlock
 abbrev pub content_of : Lease → List ℕ

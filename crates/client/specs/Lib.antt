@@ -4,8 +4,10 @@ pub mod Seen
 pub mod Places
 pub mod Pieces
 pub mod Calls
+pub mod Lending
 pub mod Coming
 pub mod Finding
 pub mod Kept
 pub mod Sizes
 pub mod Granting
+pub mod GrantedLending

@@ -1,11 +1,12 @@
 -- The pieces of a client.
-use Rattle.std.specs.Prelude.{◌≡◌, ◌≢◌, ◌⊎◌, ℕ, Bool, true, false, ◌&&◌, List, [], ◌∷◌, Contains, if◌then◌else◌}
+use Rattle.std.specs.Prelude.{◌≡◌, ◌≢◌, ◌⊎◌, ℕ, Bool, true, false, ◌&&◌, List, [], ◌∷◌, map, length, Contains, ◌*◌, if◌then◌else◌}
 use Rattle.page_locks.specs.Locks.{IsRange}
 use Rattle.segment.specs.declared.owner.Lock.{Lock}
 use Rattle.segment.specs.declared.owner.Lock.TheVariants.{Held, Gone}
 use Rattle.span_heap.specs.declared.run.Run.{Run}
 use Rattle.span_heap.specs.Run.{has_page}
-use Rattle.client.specs.Lease.{Lease, content_of, pages_at}
+use Rattle.units.specs.declared.TheConstants.{PAGE}
+use Rattle.client.specs.Lease.{Lease, content_of, pages_at, with_bytes}
 use Rattle.client.specs.Seen.{Seen, is_lease, is_gone}
 use Rattle.client.specs.Places.{StandsAt}
 
@@ -115,3 +116,18 @@ pub record UnlocksPiece (part : Part) (old new : Seen) : Type 0 where
   pub bytes : bytes_of new part.run ≡ bytes_of old part.run
   pub there : is_gone new part.run.segment ≡ false
   pub stay : OthersStay part.run old new
+
+-- the client with bytes written over those that the run's segment has in its hand, from the run's first page on
+abbrev pub written_run : Seen → Run → List ℕ → Seen
+written_run seen run w =
+    record seen { leases = map (λ (lease : Lease). if is_lease run.segment lease then with_bytes run.first w lease else lease) seen.leases }
+
+-- A write to a locked piece, which stays owned and has what was written. Each other piece stays: it has the bytes that it had.
+pub record WritesPiece (part : Part) (w : List ℕ) (old new : Seen) : Type 0 where
+  pub owned : Owns new part
+  pub bytes : bytes_of new part.run ≡ w
+  pub stay : OthersStay part.run old new
+
+-- so it is for each write of as many bytes as the piece has
+abbrev pub WritesOnly : Part → Seen → Type 0
+WritesOnly part seen = (w : List ℕ) → length w ≡ PAGE * part.run.pages → WritesPiece part w seen (written_run seen part.run w)

@@ -1,5 +1,10 @@
 -- Where a segment stands among those of a client.
-use Rattle.std.specs.Prelude.{◌≡◌, ◌<◌, ℕ, false, List, length, Option, Some, MatchOption, slice_get}
+use Rattle.std.specs.Prelude.{◌≡◌, ◌<◌, ℕ, Bool, false, List, length, Option, Some, MatchOption, slice_get, filter}
+use Rattle.std.specs.List.{list_any}
+use Rattle.std.specs.List.Sorted.{IsPermutation}
+use Rattle.segment.specs.Owned.{Owned}
+use Rattle.span_heap.specs.declared.run.Run.{Run}
+use Rattle.span_heap.specs.Run.{lies_in}
 use Rattle.span_heap.specs.Changes.{NoneIn}
 use Rattle.client.specs.Lease.{Lease}
 use Rattle.client.specs.Seen.{Seen, has_lease}
@@ -14,6 +19,10 @@ pub record StandsAt (leases : List Lease) (id : ℕ) : Type 0 where
 -- the segment of this number stands at the place
 abbrev pub IsThere : ℕ → ℕ → List Lease → Type 0
 IsThere place id leases = (lease : Lease) × (slice_get leases place ≡ Some lease) × (lease.side.id ≡ id)
+
+-- the side is that of the segment at the place
+abbrev pub IsSideAt : ℕ → List Lease → Owned → Type 0
+IsSideAt place leases side = (lease : Lease) → slice_get leases place ≡ Some lease → side ≡ lease.side
 
 -- the place of the segment of this number, or none where no segment has it
 abbrev pub IsPlaceOf : List Lease → ℕ → Option ℕ → Type 0
@@ -33,3 +42,12 @@ pub record IsFirstFree (place : ℕ) (seen : Seen) : Type 0 where
 -- each segment has a used span
 abbrev pub NoneAllFree : Seen → Type 0
 NoneAllFree seen = AreUsedBefore (length seen.leases) seen
+
+-- the segment has one of these used spans
+abbrev pub has_used : List Run → Lease → Bool
+has_used used lease = list_any (lies_in lease.side.id) used
+
+-- Each segment that was all free left, and no other: those with a used span are left, in their order, with all used spans.
+pub record LeavesUsed (old new : Seen) : Type 0 where
+  pub leases : new.leases ≡ filter (has_used old.heap.used) old.leases
+  pub used : IsPermutation old.heap.used new.heap.used

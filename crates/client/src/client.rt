@@ -1,18 +1,19 @@
-ghost use Rattle.std.specs.Prelude.{◌≡◌, ◌↔◌, ◌+◌, ◌-◌, ◌^◌, ◌<◌, ◌≤◌, ◌++◌, ◌∷◌, ◌⊎◌, [], ℕ, true, false, IsTrue, IfOk, IfErr, IfSome, IfNone, OnErr, List, length};
+ghost use Rattle.std.specs.Prelude.{◌≡◌, ◌↔◌, ◌+◌, ◌-◌, ◌*◌, ◌^◌, ◌<◌, ◌≤◌, ◌++◌, ◌∷◌, ◌⊎◌, [], ℕ, true, false, IsTrue, IfOk, IfErr, IfSome, IfNone, OnErr, List, length};
 ghost use Rattle.std.specs.List.{find, list_any};
 ghost use Rattle.std.specs.Borrow.{sem};
 ghost use Rattle.units.specs.Moment.{IsMoment};
-ghost use Rattle.units.specs.declared.TheConstants.{MOST_PAGES};
+ghost use Rattle.units.specs.declared.TheConstants.{MOST_PAGES, PAGE};
 ghost use Rattle.segment.specs.Owned.{Owned};
 ghost use Rattle.segment.specs.declared.owner.Phase.TheVariants as phase;
 ghost use Rattle.segment.specs.declared.owner.Lock.TheVariants as lock;
 ghost use Rattle.span_heap.specs.Heap.{size_of};
 ghost use Rattle.client.specs.Seen.{Seen, new_client, next_untold, IsUnknown};
 ghost use Rattle.client.specs.Gone.{AreGone, kept_side, after_next};
-ghost use Rattle.client.specs.Pieces.{Part, Owns, AllStay, OthersStay, IsNew, AreApart, bytes_of, IsLive, IsDead, LocksPiece, UnlocksPiece, IsUsed, StayElsewhere, part_after_lock};
-ghost use Rattle.client.specs.Calls.{LocksPart, Unlocks, UnlocksRun, AfterFree, TakesOut};
+ghost use Rattle.client.specs.Pieces.{Part, Owns, AllStay, OthersStay, IsNew, AreApart, bytes_of, IsLive, IsDead, LocksPiece, UnlocksPiece, IsUsed, StayElsewhere, part_after_lock, WritesOnly};
+ghost use Rattle.client.specs.Calls.{LocksPart, Unlocks, UnlocksRun, AfterFree, TakesFirstFree, TakesLast};
+ghost use Rattle.client.specs.Kept.{IsSound};
 ghost use Rattle.client.specs.Places.{IsThere, IsFirstFree, NoneAllFree};
-ghost use Rattle.client.specs.Finding.{Finds, Adopts, SweepsAll};
+ghost use Rattle.client.specs.Finding.{Finds, Adopts, SweepsSome};
 
 use crate::answers::{Unadopted, Unlocked};
 use crate::coming::{front_locks, grow_front, make_room};
@@ -59,10 +60,13 @@ impl Model for Client {
 
     ghost view = { λ c. seen_of c.number c.standard c.leases.items c.heap c.gone c.taken };
 
-    ghost invariant = { λ c. IsKept (seen_of c.number c.standard c.leases.items c.heap c.gone c.taken) c.pages c.gone.room };
+    ghost invariant = { λ c.
+        IsKept (seen_of c.number c.standard c.leases.items c.heap c.gone c.taken) c.pages c.gone.room };
 }
 
 impl Client {
+    ghost use Rattle.client.specs.Lending.{LendsPiece};
+
     /// A client with no segment. Its number is at least 1, and its standard size is the size in pages of
     /// the segments that it asks for, where not more are wanted: from 1 to 65,536.
     pub fn new(alloc: Global, number: u32, standard: u32) -> Result<Client, NoMemory>
@@ -100,7 +104,8 @@ impl Client {
 
     /// The pages of its segments.
     pub fn heap_pages(&self) -> u64
-        ensures { result ≡ size_of self.now.heap.segments }
+        ensures pages { result ≡ size_of self.now.heap.segments }
+        ensures sound { IsSound self.now }
     {
         u64::from(self.pages)
     }
@@ -256,12 +261,29 @@ impl Client {
     pub fn bytes(&self, piece: &Piece) -> &[u8]
         requires owned { Owns self.now piece.now }
         requires locked { piece.now.locked ≡ true }
-        ensures { result.now ≡ bytes_of self.now piece.now.run }
+        ensures value { result.now ≡ bytes_of self.now piece.now.run }
+        ensures sized { length result.now ≡ PAGE * piece.now.run.pages }
     {
         let Some(place) = place_of(self.leases.as_slice(), piece.segment()) else {
             unreachable!()
         };
         self.leases[place].bytes(piece.first(), piece.pages())
+    }
+
+    /// The bytes of a locked piece, to be written: that part of the segment's block itself. A write
+    /// changes no byte of another piece, and nothing else of the client.
+    pub fn bytes_mut(&mut self, piece: &Piece) -> &mut [u8]
+        requires owned { Owns self.old piece.now }
+        requires locked { piece.now.locked ≡ true }
+        ensures* writes_back { sem 𝓛 (LendsPiece self.entry piece.now.run result) }
+        ensures value { result.now ≡ bytes_of self.old piece.now.run }
+        ensures sized { length result.now ≡ PAGE * piece.now.run.pages }
+        ensures only { WritesOnly piece.now self.old }
+    {
+        let Some(place) = place_of(self.leases.as_slice(), piece.segment()) else {
+            unreachable!()
+        };
+        self.leases[place].bytes_mut(piece.first(), piece.pages())
     }
 
     /// Gives a piece up. A locked piece is unlocked at the moment first; then its pages are free, and join
@@ -298,7 +320,7 @@ impl Client {
     /// Looks at each segment that has no locked page, by one load. Those that it finds gone leave, and the
     /// answer is how many they were.
     pub fn sweep(&mut self) -> u64
-        ensures sweeps { (lost : List Owned) × (result ≡ length lost) × SweepsAll lost self.old self.new }
+        ensures sweeps { SweepsSome result self.old self.new }
         ensures stay { AllStay self.old self.new }
     {
         let all = self.leases.len();
@@ -315,7 +337,9 @@ impl Client {
     /// none.
     pub fn untold(&mut self) -> Option<u64>
         ensures number { result ≡ next_untold self.old }
-        ensures told { self.new ≡ record self.old { told = after_next self.old.gone self.old.told } }
+        ensures told { self.new ≡ record self.old {
+          told = after_next self.old.gone self.old.told;
+        } }
     {
         self.gone.next()
     }
@@ -323,7 +347,7 @@ impl Client {
     /// Takes out the oldest segment that is all free, with its side. None exactly where there is none. It goes
     /// along the segments up to that one.
     pub fn take_free(&mut self) -> Option<OwnerSide>
-        ensures taken { IfSome result (λ side. (place : ℕ) × (IsFirstFree place self.old) × TakesOut place side self.old self.new) }
+        ensures taken { IfSome result (λ side. TakesFirstFree side self.old self.new) }
         ensures none { IfNone result (NoneAllFree self.old × (self.new ≡ self.old)) }
         ensures unknown { IfSome result (λ side. IsUnknown side.id self.new) }
         ensures stay { AllStay self.old self.new }
@@ -333,10 +357,10 @@ impl Client {
         Some(self.take_out(place))
     }
 
-    /// Takes out a segment, with its side. Its pieces are owned no more. None exactly where there is no
-    /// segment.
+    /// Takes out the segment that came last, with its side. Its pieces are owned no more. None exactly
+    /// where there is no segment.
     pub fn take_any(&mut self) -> Option<OwnerSide>
-        ensures taken { IfSome result (λ side. (place : ℕ) × TakesOut place side self.old self.new) }
+        ensures taken { IfSome result (λ side. TakesLast side self.old self.new) }
         ensures none { IfNone result ((self.old.leases ≡ []) × (self.new ≡ self.old)) }
         ensures unknown { IfSome result (λ side. IsUnknown side.id self.new) }
         ensures stay { IfSome result (λ side. StayElsewhere side.id self.old self.new) }

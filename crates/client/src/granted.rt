@@ -1,15 +1,17 @@
-ghost use Rattle.std.specs.Prelude.{◌≡◌, ◌↔◌, ◌+◌, ◌-◌, ◌^◌, ◌<◌, ◌≤◌, ℕ, [], List, Some, true, false, IsTrue, IfOk, IfErr, OnErr, length};
+ghost use Rattle.std.specs.Prelude.{◌≡◌, ◌↔◌, ◌+◌, ◌-◌, ◌*◌, ◌^◌, ◌<◌, ◌≤◌, ℕ, [], List, Some, true, false, IsTrue, IfOk, IfErr, OnOk, OnErr, length};
 ghost use Rattle.units.specs.Moment.{IsMoment};
-ghost use Rattle.units.specs.declared.TheConstants.{MOST_PAGES};
+ghost use Rattle.units.specs.declared.TheConstants.{MOST_PAGES, PAGE};
 ghost use Rattle.segment.specs.Owned.{Owned};
 ghost use Rattle.span_heap.specs.Heap.{size_of};
 ghost use Rattle.client.specs.Sizes.{wanted};
-ghost use Rattle.client.specs.Pieces.{Owns, AllStay, OthersStay, IsNew, LocksPiece, UnlocksPiece, bytes_of, part_after_lock};
-ghost use Rattle.client.specs.Places.{NoneAllFree};
+ghost use Rattle.client.specs.Pieces.{Owns, AllStay, OthersStay, IsNew, LocksPiece, UnlocksPiece, bytes_of, part_after_lock, WritesOnly};
+ghost use Rattle.client.specs.Places.{NoneAllFree, LeavesUsed};
+ghost use Rattle.std.specs.Borrow.{sem};
+ghost use Rattle.units.specs.Count.{next_count};
 ghost use Rattle.client.specs.Calls.{LocksPart, UnlocksRun, AfterFree};
 ghost use Rattle.client.specs.Gone.{AreGone, Includes};
 ghost use Rattle.client.specs.declared.granted.ClientFault.TheVariants as fault;
-ghost use Rattle.client.specs.Granting.{Allocates, granted_pages, GrowsBy, Releases, IsSettled, IsTooLarge, CameWhole};
+ghost use Rattle.client.specs.Granting.{Allocates, granted_pages, GrowsBy, Releases, IsSettled, IsTooLarge, CameWhole, IsBalanced, AllocatesCounted, IsOutOfMemory};
 
 use crate::answers::{Unadopted, Unlocked};
 use crate::client::Client;
@@ -64,7 +66,12 @@ impl<G: Granter + Drop> Model for Granted<G> {
     ghost Value = { Session G };
 
     ghost view = { λ g.
-        record { client = g.client; granter = g.granter; start = g.start.value; grants = g.grants } };
+        record {
+          client = g.client;
+          granter = g.granter;
+          start = g.start.value;
+          grants = g.grants;
+        } };
 
     ghost invariant = { λ g.
         IsBalanced (G.grants g.start.value) (G.grants g.granter) (G.returns g.start.value)
@@ -73,6 +80,8 @@ impl<G: Granter + Drop> Model for Granted<G> {
 }
 
 impl<G: Granter + Drop> Granted<G> {
+    ghost use Rattle.client.specs.GrantedLending.{LendsOwnPiece};
+
     /// A client over a granter. The client has no segment, and none that is gone.
     pub fn new(client: Client, granter: G) -> Granted<G>
         requires leases { client.leases ≡ [] }
@@ -91,9 +100,13 @@ impl<G: Granter + Drop> Granted<G> {
         }
     }
 
-    /// The client.
+    /// The client. As many segments were granted since `new` as it counts, and all but those that the
+    /// client has or has not told were given back.
     pub fn client(&self) -> &Client
-        ensures { result.now ≡ self.now.client }
+        ensures client { result.now ≡ self.now.client }
+        ensures balanced { IsBalanced (G.grants self.now.start) (G.grants self.now.granter)
+            (G.returns self.now.start) (G.returns self.now.granter) (G.greatest self.now.granter)
+            self.now.grants self.now.client }
     {
         &self.client
     }
@@ -134,9 +147,22 @@ impl<G: Granter + Drop> Granted<G> {
     pub fn bytes(&self, piece: &Piece) -> &[u8]
         requires owned { Owns self.now.client piece.now }
         requires locked { piece.now.locked ≡ true }
-        ensures { result.now ≡ bytes_of self.now.client piece.now.run }
+        ensures value { result.now ≡ bytes_of self.now.client piece.now.run }
+        ensures sized { length result.now ≡ PAGE * piece.now.run.pages }
     {
         self.client.bytes(piece)
+    }
+
+    /// The bytes of a locked piece, to be written, as `Client::bytes_mut` lends them.
+    pub fn bytes_mut(&mut self, piece: &Piece) -> &mut [u8]
+        requires owned { Owns self.old.client piece.now }
+        requires locked { piece.now.locked ≡ true }
+        ensures* writes_back { sem 𝓛 (LendsOwnPiece G.row G.Granter self.entry piece.now.run result) }
+        ensures value { result.now ≡ bytes_of self.old.client piece.now.run }
+        ensures sized { length result.now ≡ PAGE * piece.now.run.pages }
+        ensures only { WritesOnly piece.now self.old.client }
+    {
+        self.client.bytes_mut(piece)
     }
 
     /// Gives a piece up, as `Client::free` does.
@@ -153,8 +179,8 @@ impl<G: Granter + Drop> Granted<G> {
     /// Allocates a locked piece of so many bytes, at least one page. It looks among the free pages; where it
     /// finds none it releases the purged segments and asks for a new one, of the standard size or of the
     /// pages that are wanted where these are more. TooLarge exactly where they are more than 65,536, and
-    /// then nothing changed. After `NoMemory` all pieces stay, segments found gone have left, and a segment
-    /// that was granted in this call was given back.
+    /// then nothing changed. After `NoMemory` all pieces stay and no segment came, segments found gone have
+    /// left, and a segment that was granted in this call was given back.
     ///
     /// Condition: the client's `heap_pages` is below 2^32 - 65,536.
     pub fn allocate<H: Threads + Wait + Sync>(
@@ -173,6 +199,11 @@ impl<G: Granter + Drop> Granted<G> {
         ensures size { IfOk result (λ piece. (pages : ℕ) × (wanted bytes ≡ Some pages)
             × (size_of self.new.client.heap.segments
             ≤ size_of self.old.client.heap.segments + granted_pages self.old.client pages)) }
+        ensures grants { IfOk result (λ piece. (pages : ℕ) × (wanted bytes ≡ Some pages)
+            × AllocatesCounted pages piece self.old self.new) }
+        ensures out { IsOutOfMemory bytes result self.old self.new }
+        ensures no_more { OnErr result (size_of self.new.client.heap.segments
+            ≤ size_of self.old.client.heap.segments) }
         ensures gone { Includes self.old.client.gone self.new.client.gone }
         ensures stay { AllStay self.old.client self.new.client }
         ensures start { self.new.start ≡ self.old.start }
@@ -201,6 +232,7 @@ impl<G: Granter + Drop> Granted<G> {
         requires small { size_of self.old.client.heap.segments + MOST_PAGES < 2 ^ 32 }
         requires moment { IsMoment now }
         ensures ok { IfOk result (λ piece. GrowsBy pages piece self.old.client self.new.client) }
+        ensures counted { OnOk result (self.new.grants ≡ next_count self.old.grants) }
         ensures piece { IfOk result (λ piece. IsNew pages self.old.client self.new.client piece) }
         ensures same { OnErr result (self.new.client ≡ self.old.client) }
         ensures stay { AllStay self.old.client self.new.client }
@@ -235,9 +267,11 @@ impl<G: Granter + Drop> Granted<G> {
         lost
     }
 
-    /// Gives back each segment that is all free, and answers how many were whole: the others were purged.
+    /// Gives back each segment that is all free, and no other, and answers how many were whole: the
+    /// others were purged.
     pub fn release_free<H: Threads + Wait + Sync>(&mut self, rt: &H) -> u64
         ensures whole { CameWhole result self.old.client self.new.client }
+        ensures left { LeavesUsed self.old.client self.new.client }
         ensures none { NoneAllFree self.new.client }
         ensures gone { Includes self.old.client.gone self.new.client.gone }
         ensures stay { AllStay self.old.client self.new.client }

@@ -1,5 +1,6 @@
 //! A segment that a client has, with the locks of its pages.
 ghost use Rattle.std.specs.Prelude.{◌≡◌, ◌↔◌, ◌+◌, ◌≤◌, true, false, IsTrue, take, drop, length};
+ghost use Rattle.segment.specs.Owned.{HasPages};
 ghost use Rattle.std.specs.Borrow.{sem};
 ghost use Rattle.units.specs.Moment.{IsMoment};
 ghost use Rattle.page_locks.specs.Locks.{AreFree, AreLocked, IsRange};
@@ -28,6 +29,8 @@ impl Model for LeasedSegment {
 }
 
 impl LeasedSegment {
+    ghost use Rattle.client.specs.Lending.{LendsPages};
+
     /// A segment with these locks of its pages.
     pub(crate) fn new(side: OwnerSide, locks: PageLocks) -> LeasedSegment
         ensures { result ≡ record { side = side; locks = locks } }
@@ -107,12 +110,28 @@ impl LeasedSegment {
     pub(crate) fn bytes(&self, first: u32, count: u32) -> &[u8]
         requires lease { IsLease self.now }
         requires locked { AreLocked self.now.locks first count }
-        ensures { result.now ≡ pages_at first count self.now.side.bytes }
+        ensures value { result.now ≡ pages_at first count self.now.side.bytes }
+        ensures pages { HasPages self.now.side }
     {
         let bytes = self.side.bytes();
         let first = first as usize * PAGE as usize;
         let length = count as usize * PAGE as usize;
         &bytes[first..][..length]
+    }
+
+    /// The bytes of a range of locked pages, to be written.
+    pub(crate) fn bytes_mut(&mut self, first: u32, count: u32) -> &mut [u8]
+        requires lease { IsLease self.old }
+        requires locked { AreLocked self.old.locks first count }
+        ensures* writes_back { sem 𝓛 (LendsPages self.entry first result) }
+        ensures value { result.now ≡ pages_at first count self.old.side.bytes }
+        ensures pages { HasPages self.old.side }
+    {
+        // This call tells how long they are.
+        let _ = self.side.bytes();
+        let first = first as usize * PAGE as usize;
+        let length = count as usize * PAGE as usize;
+        self.side.part_mut(first, length)
     }
 
     /// Its side.

@@ -4,7 +4,7 @@ ghost use Rattle.units.specs.Count.{next_count};
 ghost use Rattle.segment.specs.declared.owner.Phase.TheVariants as phase;
 ghost use Rattle.client.specs.Seen.{IsUnknown};
 ghost use Rattle.client.specs.Pieces.{AllStay};
-ghost use Rattle.client.specs.Places.{NoneAllFree};
+ghost use Rattle.client.specs.Places.{NoneAllFree, LeavesUsed};
 ghost use Rattle.client.specs.Granting.{GivesSide, Tracks, Returns, CameWhole, all_told};
 
 use crate::client::Client;
@@ -89,8 +89,10 @@ pub(crate) fn give_back_free<G: Granter, H: Threads + Wait + Sync>(
     granter: &mut G,
     rt: &H,
 ) -> u64
-    ensures returns { Returns (G.returns granter.old) (G.returns granter.new) client.old client.new }
+    ensures returns { Returns (G.returns granter.old) (G.returns granter.new)
+        client.old client.new }
     ensures whole { CameWhole result client.old client.new }
+    ensures left { LeavesUsed client.old client.new }
     ensures none { NoneAllFree client.new }
     ensures stay { AllStay client.old client.new }
     ensures grants { G.grants granter.new ≡ G.grants granter.old }
@@ -112,7 +114,8 @@ pub(crate) fn give_back_all<G: Granter, H: Threads + Wait + Sync>(
     granter: &mut G,
     rt: &H,
 )
-    ensures returns { Returns (G.returns granter.old) (G.returns granter.new) client.old client.new }
+    ensures returns { Returns (G.returns granter.old) (G.returns granter.new)
+        client.old client.new }
     ensures none { client.new.leases ≡ [] }
     ensures grants { G.grants granter.new ≡ G.grants granter.old }
     ensures greatest { G.greatest granter.new ≡ G.greatest granter.old }

@@ -12,7 +12,7 @@ ghost use Rattle.client.specs.Gone.{has_side};
 ghost use Rattle.client.specs.Lease.{Lease};
 ghost use Rattle.client.specs.Pieces.{AllStay, OthersStay, IsUsed, IsFresh, LocksSo, UnlocksSo, StayElsewhere};
 ghost use Rattle.client.specs.Calls.{LocksRun, UnlocksRun, FreesRun, TakesOut, HasSegment, LooksInto};
-ghost use Rattle.client.specs.Places.{IsThere, IsFirstFree, NoneAllFree};
+ghost use Rattle.client.specs.Places.{IsThere, IsSideAt, IsFirstFree, NoneAllFree};
 ghost use Rattle.client.specs.Finding.{CarvesPick};
 
 use crate::answers::Unlocked;
@@ -25,7 +25,7 @@ use span_heap::{Heap, Span};
 pub(crate) fn leave(leases: &mut Vec<LeasedSegment>, heap: &mut Heap, place: usize) -> OwnerSide
     requires inside { place < vec_len leases.old }
     requires there { HasSegment place leases.old.items heap.old }
-    ensures side { (lease : Lease) → slice_get leases.old.items place ≡ Some lease → result ≡ lease.side }
+    ensures side { IsSideAt place leases.old.items result }
     ensures leases { leases.new.items ≡ remove leases.old.items place }
     ensures fewer { vec_len leases.new + 1 ≡ vec_len leases.old }
     ensures heap { Drops heap.old heap.new result.id }

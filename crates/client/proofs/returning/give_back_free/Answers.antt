@@ -2,13 +2,14 @@ use Rattle.std.proofs.Common.{true, false, refl, arith, ◌∙◌}
 use Rattle.client.proofs.PieceCalls.{all_on}
 use Rattle.client.proofs.PiecesStay.{stays_as_it_is}
 use Rattle.client.proofs.GivingBack.{returns_start, returns_on, giving_whole, giving_gone, giving_fewer}
+use Rattle.client.proofs.FreeOnesLeft.{leaving_start, leaving_on, leaving_end}
 use Rattle.client.proofs.returning.give_back_free.Goals as goal
 
 pub give_back_side-requires-clause-taken : goal.give_back_side-requires-clause-taken
 give_back_side-requires-clause-taken g c = omega (arith, c.in-Some.ensures.taken.2.taken)
 
 pub loop-side-init : goal.loop-side-init
-loop-side-init g c = record { returns = returns_start _ _; whole = λ low. omega arith; stay = stays_as_it_is _; grants = refl; greatest = refl; standing = refl }
+loop-side-init g c = record { returns = returns_start _ _; whole = λ low. omega arith; leaves = leaving_start _; stay = stays_as_it_is _; grants = refl; greatest = refl; standing = refl }
 
 pub loop-side-preserved-then-give_back_side : goal.loop-side-preserved-then-give_back_side
 loop-side-preserved-then-give_back_side g c =
@@ -16,6 +17,7 @@ loop-side-preserved-then-give_back_side g c =
     record {
       returns = returns_on true _ _ c.take_free.new.self _ _ _ _ c.in-Some.ensures.taken.0 c.in-Some.side c.loop-side.invariant.returns c.in-Some.ensures.taken.2 gives c.give_back_side.ensures.returns;
       whole = giving_whole c.args.client.now c.loop-side.client c.take_free.new.self c.give_back_side.new.client c.loop-side.whole _ c.in-Some.ensures.taken.0 c.in-Some.side c.loop-side.invariant.whole c.in-Some.ensures.taken.2 gives c.saturating_add-whole.ensures;
+      leaves = leaving_on c.give_back_side.result _ _ c.take_free.new.self _ c.in-Some.ensures.taken.0 c.in-Some.side c.loop-side.invariant.leaves c.in-Some.ensures.taken.1 c.in-Some.ensures.taken.2 c.give_back_side.ensures.client;
       stay = all_on _ c.take_free.new.self _ (all_on _ c.loop-side.client _ c.loop-side.invariant.stay c.take_free.ensures.stay) c.give_back_side.ensures.stay;
       grants = c.give_back_side.ensures.grants ∙ c.loop-side.invariant.grants;
       greatest = c.give_back_side.ensures.greatest ∙ c.loop-side.invariant.greatest;
@@ -28,6 +30,7 @@ loop-side-preserved g c =
     record {
       returns = returns_on false _ _ c.take_free.new.self _ _ _ _ c.in-Some.ensures.taken.0 c.in-Some.side c.loop-side.invariant.returns c.in-Some.ensures.taken.2 gives c.give_back_side.ensures.returns;
       whole = giving_gone c.args.client.now c.loop-side.client c.take_free.new.self c.give_back_side.new.client c.loop-side.whole c.in-Some.ensures.taken.0 c.in-Some.side c.loop-side.invariant.whole c.in-Some.ensures.taken.2 gives;
+      leaves = leaving_on c.give_back_side.result _ _ c.take_free.new.self _ c.in-Some.ensures.taken.0 c.in-Some.side c.loop-side.invariant.leaves c.in-Some.ensures.taken.1 c.in-Some.ensures.taken.2 c.give_back_side.ensures.client;
       stay = all_on _ c.take_free.new.self _ (all_on _ c.loop-side.client _ c.loop-side.invariant.stay c.take_free.ensures.stay) c.give_back_side.ensures.stay;
       grants = c.give_back_side.ensures.grants ∙ c.loop-side.invariant.grants;
       greatest = c.give_back_side.ensures.greatest ∙ c.loop-side.invariant.greatest;
@@ -39,3 +42,6 @@ loop-side-smaller-then-give_back_side g c = giving_fewer c.give_back_side.result
 
 pub loop-side-smaller : goal.loop-side-smaller
 loop-side-smaller g c = giving_fewer c.give_back_side.result _ c.take_free.new.self _ c.in-Some.ensures.taken.0 c.in-Some.side c.in-Some.ensures.taken.2 c.give_back_side.ensures.client
+
+pub returns-clause-left : goal.returns-clause-left
+returns-clause-left g c = rw c.in_default.ensures.none.1 (leaving_end c.args.client.now c.loop-side.client c.loop-side.invariant.leaves c.in_default.ensures.none.0)

@@ -1,12 +1,14 @@
 use Rattle.std.proofs.Common.{◌≡◌, length}
 use Rattle.client.specs.Pieces.{AllStay}
 use Rattle.client.specs.Granting.{Returns, CameWhole}
+use Rattle.client.proofs.FreeOnesLeft.{Leaving}
 use Rattle.client.proofs.returning.give_back_free.Given as goal
 
 abbrev pub invariant-loop-side : goal.invariant-loop-side
 invariant-loop-side g l = record {
   returns : Returns (g.G.Granter.returns l.fn.granter) (g.G.Granter.returns l.granter) l.fn.client l.client;
   whole : CameWhole l.whole l.fn.client l.client;
+  leaves : Leaving l.fn.client l.client;
   stay : AllStay l.fn.client l.client;
   grants : g.G.Granter.grants l.granter ≡ g.G.Granter.grants l.fn.granter;
   greatest : g.G.Granter.greatest l.granter ≡ g.G.Granter.greatest l.fn.granter;

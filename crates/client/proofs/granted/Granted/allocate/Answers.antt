@@ -1,5 +1,7 @@
-use Rattle.std.proofs.Common.{◌≡◌, arith, sym, ap, inl, inr}
+use Rattle.std.proofs.Common.{◌≡◌, ◌≤◌, arith, refl, sym, ap, ◌∙◌, inl, inr}
+use Rattle.units.specs.Count.{next_count}
 use Rattle.client.specs.Seen.{Seen}
+use Rattle.client.specs.Granting.{Misses}
 use Rattle.client.proofs.PieceCalls.{all_on}
 use Rattle.client.proofs.Debts.{debt_found}
 use Rattle.client.proofs.GivingBack.{balanced_on}
@@ -7,7 +9,7 @@ use Rattle.std.proofs.Common.{◌+◌, ◌<◌, ◌^◌}
 use Rattle.units.specs.declared.TheConstants.{MOST_PAGES}
 use Rattle.span_heap.specs.Heap.{size_of}
 use Rattle.client.proofs.PieceCalls.{new_since}
-use Rattle.client.proofs.Allocating.{size_found, allocated, gone_released, includes_on}
+use Rattle.client.proofs.Allocating.{size_found, allocated, gone_released, includes_on, on_error, out_of_memory}
 use Rattle.client.proofs.granted.Granted.allocate.Goals as goal
 
 pub invariant_of-self : goal.invariant_of-self
@@ -93,3 +95,43 @@ returns-clause-gone g c =
       releases = c.release_purged.ensures.releases.2;
       grown = c.in_ok-grow.ensures.ok;
     }))).1
+
+pub returns-in-Some-find-clause-grants : goal.returns-in-Some-find-clause-grants
+returns-in-Some-find-clause-grants g c = rw (← c.self.view_is) (c.in-Some.pages, sym c.in-Some.ensures, inl (c.in-Some-find.ensures.finds.0, c.in-Some-find.ensures.finds.1, refl))
+
+pub returns-clause-grants : goal.returns-clause-grants
+returns-clause-grants g c =
+    rw (← c.self.view_is) (
+      c.in-Some.pages,
+      sym c.in-Some.ensures,
+      inr (
+        record {
+          missed = c.find.new.self;
+          lost = c.in_default-find.ensures.finds.0;
+          finds = c.in_default-find.ensures.finds.1;
+          swept = c.release_purged.ensures.releases.0;
+          released = c.release_purged.new.self.client;
+          releases = c.release_purged.ensures.releases.2;
+          grown = c.in_ok-grow.ensures.ok;
+        },
+        c.in_ok-grow.ensures.counted ∙ ap next_count c.release_purged.ensures.grants,
+      ),
+    )
+
+pub returns-in_err-grow-clause-out : goal.returns-in_err-grow-clause-out
+returns-in_err-grow-clause-out g c =
+    let released : Misses c.in-Some.pages c.self.inside.client c.release_purged.new.self.client = record {
+      missed = c.find.new.self;
+      lost = c.in_default-find.ensures.finds.0;
+      finds = c.in_default-find.ensures.finds.1;
+      swept = c.release_purged.ensures.releases.0;
+      releases = c.release_purged.ensures.releases.2;
+    } in
+    rw (← c.self.view_is, c.in_err-grow.ensures.same) (out_of_memory c.args.bytes c.in-Some.pages _ _ _ (sym c.in-Some.ensures) released)
+
+pub returns-in_err-grow-clause-no_more : goal.returns-in_err-grow-clause-no_more
+returns-in_err-grow-clause-no_more g c =
+    let found = size_found c.in-Some.pages c.in_default-find.ensures.finds.0 _ _ _ c.in_default-find.ensures.finds.1 in
+    let releases = c.release_purged.ensures.releases.2 in
+    let told : size_of c.release_purged.new.self.client.heap.segments ≡ size_of releases.swept.heap.segments = ap (λ (s : Seen). size_of s.heap.segments) releases.told in
+    rw (← c.self.view_is, c.in_err-grow.ensures.same) (on_error _ (size_of c.release_purged.new.self.client.heap.segments ≤ size_of c.self.inside.client.heap.segments) (omega (arith, found, told, releases.sweeps.size)))
