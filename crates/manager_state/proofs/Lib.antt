@@ -1,4 +1,6 @@
 pub mod TableTells
+pub mod KeptNumbers
+pub mod ClientNumbers
 pub mod LiveSides
 pub mod AgreesStays
 pub mod Rooms

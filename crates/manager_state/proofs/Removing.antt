@@ -1,5 +1,5 @@
 -- The removal of a client, number by number.
-use Rattle.std.proofs.Common.{◌≡◌, ◌≢◌, ℕ, ◌+◌, ◌<◌, ◌≤◌, ◌==◌, zero, suc, Bool, true, false, not, cond, ◌&&◌, ◌||◌, List, [], ◌∷◌, ◌++◌, length, map, filter, All, refl, sym, ap, ap₂, subst, ◌∙◌, arith, length-append, append_assoc}
+use Rattle.std.proofs.Common.{◌≡◌, ◌≢◌, ℕ, ◌+◌, ◌-◌, ◌^◌, ◌<◌, ◌≤◌, ◌==◌, zero, suc, Bool, true, false, not, cond, ◌&&◌, ◌||◌, List, [], ◌∷◌, ◌++◌, length, map, filter, All, refl, sym, ap, ap₂, subst, ◌∙◌, arith, length-append, append_assoc}
 use mir.Val.{bool_byte}
 use Rattle.std.specs.List.{AllPairs}
 use Rattle.std.proofs.lemmas.Bool.Decides.{nat_tests}
@@ -17,7 +17,7 @@ use Rattle.lru_reduce.specs.Wards.{Wards, number_of, IsRisingBy, segment_of, seg
 use Rattle.manager_state.specs.Managed.{Managed, managed}
 use Rattle.manager_state.specs.Clients.{gives_back, is_granted_to, was_given_back, is_with}
 use Rattle.manager_state.specs.Calls.{sides_with, Removes}
-use Rattle.manager_state.specs.Keeping.{LetsGo}
+use Rattle.manager_state.specs.Keeping.{has_pair, KeepsLive, LetsGo}
 use Rattle.manager_state.proofs.TableTells.{granted_on}
 use Rattle.manager_state.proofs.LiveSides.{sides_within}
 
@@ -293,9 +293,9 @@ latter P [] rest all = all
 latter P (w ∷ front) rest all = latter P front rest (All-tail P w (front ++ rest) all)
 
 pub removes : (client place removed limit : ℕ) (start now : Log) (first last : Wards) (stock filled : Stock) → live start.entries ≡ segments_of first.sides → AreDrawn (live start.entries) (grants start.entries)
-    → place ≡ grants start.entries → Removing client (managed 0 start first stock) place removed now last filled → Removes client removed (managed limit start first stock) (managed limit now last filled)
+    → grants start.entries ≤ place → Removing client (managed 0 start first stock) place removed now last filled → Removes client removed (managed limit start first stock) (managed limit now last filled)
 removes client place removed limit start now first last stock filled lives drawn end r =
-    let within = subst (λ (n : ℕ). All (λ (w : Warded). w.id ≤ n) first.sides) (sym end) (sides_within first.sides start.entries lives drawn) in
+    let within = All-weaker (λ (w : Warded). w.id ≤ grants start.entries) (λ (w : Warded). w.id ≤ place) (λ w l. omega (arith, l, end)) first.sides (sides_within first.sides start.entries lives drawn) in
     let rest_in = latter (λ (w : Warded). w.id ≤ place) r.front r.rest (subst (λ (ws : List Warded). All (λ (w : Warded). w.id ≤ place) ws) r.split within) in
     let nothing : r.rest ≡ [] = none_left place r.rest rest_in r.above in
     let all : r.front ≡ first.sides = sym (append-nil r.front) ∙ ap (λ (ws : List Warded). r.front ++ ws) (sym nothing) ∙ sym r.split in
@@ -306,3 +306,53 @@ removes client place removed limit start now first last stock filled lives drawn
       sides = r.sides ∙ ap (λ (ws : List Warded). filter (without_client client start.entries) r.front ++ ws) nothing ∙ append-nil (filter (without_client client start.entries) r.front) ∙ ap (λ (ws : List Warded). filter (without_client client start.entries) ws) all;
       stock = r.stays;
     }
+
+-- By the numbers of the client alone
+
+clash : (b : Bool) → b ≡ true → b ≡ false → ⊥
+clash true t f = cc
+clash false t f = cc
+
+not_due : (w l : Bool) → (w ≡ true → l ≡ true → ⊥) → (w && l) ≡ false
+not_due true true f = absurd (f refl refl)
+not_due true false f = refl
+not_due false l f = refl
+
+passes_one : (client place removed : ℕ) (start : Managed) (log : Log) (wards : Wards) (stock : Stock) → Removing client start place removed log wards stock → live log.entries ≡ segments_of wards.sides
+    → (is_with client (place + 1) log.entries && has_number (live log.entries) (place + 1)) ≡ false → Removing client start (place + 1) removed log wards stock
+passes_one client place removed start log wards stock r lives none =
+    let goes : LetsGo client (place + 1) false (managed 0 log wards stock) (managed 0 log wards stock) = record { told = sym none; entries = refl; sides = refl; stock = refl; limit = refl } in
+    let same : removed + bool_byte false ≡ removed = ap (λ (n : ℕ). removed + n) (one_or_none false) ∙ omega arith in
+    subst (λ (n : ℕ). Removing client start (place + 1) n log wards stock) same (removing_next client place removed false start log log wards wards stock stock r lives goes)
+
+-- the next numbers are not due
+removing_past : (client k place removed : ℕ) (start : Managed) (log : Log) (wards : Wards) (stock : Stock) → Removing client start place removed log wards stock → live log.entries ≡ segments_of wards.sides
+    → ((id : ℕ) → place < id → id ≤ place + k → (is_with client id log.entries && has_number (live log.entries) id) ≡ false) → Removing client start (place + k) removed log wards stock
+removing_past client zero place removed start log wards stock r lives none = let same : place + 0 ≡ place = omega arith in rw same r
+removing_past client (suc k) place removed start log wards stock r lives none =
+    let same : place + suc k ≡ place + 1 + k = omega arith in
+    rw same
+    (removing_past client k (place + 1) removed start log wards stock (passes_one client place removed start log wards stock r lives (none (place + 1) (omega arith) (omega arith))) lives
+    (λ id low high. none id (omega (arith, low)) (omega (arith, high))))
+
+-- the least number of the client that is greater than the last one
+pub removing_at : (client last id removed : ℕ) (answer : Bool) (start : Managed) (log after : Log) (wards left : Wards) (stock filled : Stock) (numbers : List (ℕ × ℕ))
+    → Removing client start last removed log wards stock → live log.entries ≡ segments_of wards.sides → KeepsLive log.entries numbers → last < id
+    → ((between : ℕ) → last < between → between < id → has_pair numbers client between ≡ false) → LetsGo client id answer (managed 0 log wards stock) (managed 0 after left filled)
+    → Removing client start id (removed + bool_byte answer) after left filled
+removing_at client last id removed answer start log after wards left stock filled numbers r lives keeps later least goes =
+    let same : last + (id - 1 - last) + 1 ≡ id = omega (arith, later) in
+    let past = removing_past client (id - 1 - last) last removed start log wards stock r lives
+    (λ n low high. not_due (is_with client n log.entries) (has_number (live log.entries) n) (λ w l. clash (has_pair numbers client n) (keeps client n w l) (least n low (omega (arith, high, later))))) in
+    subst (λ (n : ℕ). Removing client start n (removed + bool_byte answer) after left filled) same
+    (removing_next client (last + (id - 1 - last)) removed answer start log after wards left stock filled past lives
+    (subst (λ (n : ℕ). LetsGo client n answer (managed 0 log wards stock) (managed 0 after left filled)) (sym same) goes))
+
+-- no number of the client is greater than the last one
+pub removing_end : (client last removed limit : ℕ) (start now : Log) (first sides : Wards) (stock filled : Stock) (numbers : List (ℕ × ℕ)) → live start.entries ≡ segments_of first.sides
+    → AreDrawn (live start.entries) (grants start.entries) → grants start.entries < 2 ^ 64 → Removing client (managed 0 start first stock) last removed now sides filled → live now.entries ≡ segments_of sides.sides
+    → KeepsLive now.entries numbers → ((id : ℕ) → last < id → id < 2 ^ 64 → has_pair numbers client id ≡ false) → Removes client removed (managed limit start first stock) (managed limit now sides filled)
+removing_end client last removed limit start now first sides stock filled numbers lives drawn few r lives_now keeps none =
+    let past = removing_past client (grants start.entries - last) last removed (managed 0 start first stock) now sides filled r lives_now
+    (λ n low high. not_due (is_with client n now.entries) (has_number (live now.entries) n) (λ w l. clash (has_pair numbers client n) (keeps client n w l) (none n low (omega (arith, high, low, few))))) in
+    removes client (last + (grants start.entries - last)) removed limit start now first sides stock filled lives drawn (omega arith) past

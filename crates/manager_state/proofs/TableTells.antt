@@ -14,7 +14,7 @@ use Rattle.manager_state.specs.Keeping.{client_at, Tells}
 
 -- What stands at a number
 
-at_end : (table : List ℕ) (client : ℕ) → client_at (length table + 1) (table ++ client ∷ []) ≡ client
+pub at_end : (table : List ℕ) (client : ℕ) → client_at (length table + 1) (table ++ client ∷ []) ≡ client
 at_end table client =
     get_or-append_right (0 ∷ table) (client ∷ []) (length table + 1) (length table + 1) 0 (omega arith) (omega arith)
     ∙ (let first : length table + 1 - (length table + 1) ≡ 0 = omega arith in ap (λ (n : ℕ). get_or (client ∷ []) n 0) first)
@@ -63,7 +63,7 @@ or_no false b e = e
 pub granted_on : (client id : ℕ) (entries later : List Entry) → is_granted_to client id later ≡ false → is_granted_to client id (entries ++ later) ≡ is_granted_to client id entries
 granted_on client id entries later e = list_any-append (grants_to client id) entries later ∙ or_no _ _ e
 
-back_on : (id : ℕ) (entries later : List Entry) → was_given_back id later ≡ false → was_given_back id (entries ++ later) ≡ was_given_back id entries
+pub back_on : (id : ℕ) (entries later : List Entry) → was_given_back id later ≡ false → was_given_back id (entries ++ later) ≡ was_given_back id entries
 back_on id entries later e = list_any-append (gives_back id) entries later ∙ or_no _ _ e
 
 grants_on : (entries later : List Entry) → grants (entries ++ later) ≡ grants entries + grants later

@@ -1,5 +1,8 @@
 -- What a manager keeps beside its book, and how the two agree.
-use Rattle.std.specs.Prelude.{◌≡◌, ℕ, ◌<◌, ◌≤◌, ◌==◌, nat_lt, Bool, false, ◌&&◌, if◌then◌else◌, List, [], ◌∷◌, ◌++◌, length, slice_index_or}
+use Rattle.std.specs.Prelude.{◌≡◌, ℕ, ◌<◌, ◌≤◌, ◌==◌, nat_lt, Bool, true, false, ◌&&◌, if◌then◌else◌, List, [], ◌∷◌, ◌++◌, length, slice_index_or}
+use Rattle.std.specs.List.{list_any}
+use Rattle.std.specs.Ordering.{nat_cmp, ordering_then, is_eq}
+use Rattle.std.specs.declared.cmp.Ordering.{Ordering}
 use Rattle.discard_book.specs.Live.{live, has_number, grants}
 use Rattle.discard_book.specs.Log.{Log}
 use Rattle.discard_book.specs.declared.entry.Entry.{Entry}
@@ -27,6 +30,22 @@ pub record Agrees (log : Log) (wards : Wards) (table : List ℕ) (promised : ℕ
   pub served : length wards.sides ≤ promised
   pub spare : promised ≤ log.spare
   pub drawn : promised ≤ length table
+
+-- the order of std's set of a client and a number each: by client, and then by number
+abbrev pub cmp_pairs : ℕ × ℕ → ℕ × ℕ → Ordering
+cmp_pairs x y = ordering_then (nat_cmp x.0 y.0) (nat_cmp x.1 y.1)
+
+-- this number of this client stands among these
+abbrev pub has_pair : List (ℕ × ℕ) → ℕ → ℕ → Bool
+has_pair numbers client id = list_any (λ (p : ℕ × ℕ). is_eq (cmp_pairs (client, id) p)) numbers
+
+-- the number of each live segment stands among these, with the client that has it
+abbrev pub KeepsLive : List Entry → List (ℕ × ℕ) → Type 0
+KeepsLive entries numbers = (client id : ℕ) → is_with client id entries ≡ true → has_number (live entries) id ≡ true → has_pair numbers client id ≡ true
+
+-- the numbers above the last that was drawn stay
+abbrev pub KeepsComing : ℕ → List (ℕ × ℕ) → List (ℕ × ℕ) → Type 0
+KeepsComing drawn old new = (client id : ℕ) → drawn < id → has_pair old client id ≡ true → has_pair new client id ≡ true
 
 -- One number was asked for where a client is removed: its segment was counted off exactly where it was with the client and live.
 pub record LetsGo (client id : ℕ) (answer : Bool) (old new : Managed) : Type 0 where

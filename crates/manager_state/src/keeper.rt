@@ -9,9 +9,10 @@ ghost use Rattle.lru_reduce.specs.Wards.{IsNew, without_ward};
 ghost use Rattle.manager_state.specs.Managed.{managed};
 ghost use Rattle.manager_state.specs.Clients.{is_with};
 ghost use Rattle.manager_state.specs.Calls.{Reduces, MakesRoom, Enters, RunsShort, GivesBack, TriesOne, Removes};
-ghost use Rattle.manager_state.specs.Keeping.{client_at, Agrees, LetsGo};
+ghost use Rattle.manager_state.specs.Keeping.{client_at, Agrees, has_pair, KeepsLive, KeepsComing, LetsGo};
 
 use crate::answers::{Back, Tried};
+use crate::numbers::Numbers;
 use block_pool::{Block, Pool};
 use discard_book::{Book, Entry};
 use lru_reduce::{Order, Reduced};
@@ -28,9 +29,12 @@ pub(crate) struct Keeper {
     pub(crate) pool: Pool,
     /// For each number, from 1 on, the client that has it, or 0 once it was given back.
     pub(crate) clients: Vec<u32>,
+    /// The numbers of live segments by client.
+    pub(crate) numbers: Numbers,
     /// How many spare places of the book are promised to live segments, one each for its Purge or its Back.
     pub(crate) promised: u64,
     ghost agrees: { Agrees book order clients.items promised },
+    ghost kept: { KeepsLive book.entries numbers },
 }
 
 impl Keeper {
@@ -45,22 +49,27 @@ impl Keeper {
             order: Order::new(alloc)?,
             pool: Pool::new(alloc, keep)?,
             clients: Vec::new(alloc),
+            numbers: Numbers::new(alloc),
             promised: 0,
         })
     }
 
-    /// Takes all that the lists need for a grant: a place for its warden, its client, the entry of a reduction, its
-    /// own entry, and the later one that ends it.
-    pub(crate) fn grow(&mut self, alloc: Global) -> Result<(), NoMemory>
+    /// Takes all that the lists need for a grant: a place for its warden, its client, its number, the entry of a
+    /// reduction, its own entry, and the later one that ends it.
+    pub(crate) fn grow(&mut self, alloc: Global, client: u32) -> Result<(), NoMemory>
         ensures book { OnOk result (self.new.promised + 3 ≤ self.new.book.spare) }
         ensures order { OnOk result (1 ≤ self.new.order.spare) }
         ensures clients { OnOk result (vec_len self.new.clients < vec_capacity self.new.clients) }
+        ensures number { OnOk result
+            (has_pair self.new.numbers client (length self.new.clients.items + 1) ≡ true) }
         ensures same { (limit : ℕ) → managed limit self.new.book self.new.order self.new.pool
             ≡ managed limit self.old.book self.old.order self.old.pool }
     {
         self.clients.reserve(1)?;
         self.order.reserve(alloc, 1)?;
-        self.book.reserve(alloc, self.promised + 3)
+        self.book.reserve(alloc, self.promised + 3)?;
+        let id = self.next_number();
+        self.numbers.enter(client, id)
     }
 
     /// Reduces granted pages to a limit at a moment.
@@ -74,12 +83,17 @@ impl Keeper {
         ensures spent { self.new.book.spare + result.purges + 1 ≡ self.old.book.spare }
         ensures order { self.new.order.spare ≡ self.old.order.spare }
         ensures clients { self.new.clients ≡ self.old.clients }
+        ensures coming { KeepsComing (length self.old.clients.items)
+            self.old.numbers self.new.numbers }
     {
+        let before = self.book.entries().len();
         let mut granted = self.book.granted();
         let reduced = self
             .order
             .reduce(&mut granted, limit, now, &mut self.book, &mut self.pool);
         self.promised -= reduced.purges;
+        self.numbers
+            .drop_purged(&self.book, self.clients.as_slice(), before);
         reduced
     }
 
@@ -113,6 +127,8 @@ impl Keeper {
         ensures spare { self.new.promised + 2 ≤ self.new.book.spare }
         ensures order { self.new.order.spare ≡ self.old.order.spare }
         ensures clients { self.new.clients ≡ self.old.clients }
+        ensures coming { KeepsComing (length self.old.clients.items)
+            self.old.numbers self.new.numbers }
     {
         let room = limit.saturating_sub(u64::from(pages));
         if self.book.granted() > u128::from(room) {
@@ -145,6 +161,7 @@ impl Keeper {
         requires book { self.old.promised + 2 ≤ self.old.book.spare }
         requires order { 1 ≤ self.old.order.spare }
         requires clients { vec_len self.old.clients < vec_capacity self.old.clients }
+        requires number { has_pair self.old.numbers client (length self.old.clients.items + 1) ≡ true }
         ensures ok { IfOk result (λ side. Enters client pages side
             (managed limit self.old.book self.old.order self.old.pool)
             (managed limit self.new.book self.new.order self.new.pool)) }
@@ -210,6 +227,8 @@ impl Keeper {
         let _entries = self.book.entries();
         self.order.forget(id);
         self.book.add(Entry::Back { id });
+        self.numbers
+            .drop_dead(&self.book, self.clients.as_slice(), id);
         self.clients[id as usize - 1] = 0;
         self.promised -= 1;
     }
@@ -248,6 +267,8 @@ impl Keeper {
                 self.book.add(Entry::Purge { id, known });
                 self.pool.put(block);
                 self.promised -= 1;
+                self.numbers
+                    .drop_dead(&self.book, self.clients.as_slice(), id);
                 Tried::Taken
             }
             Some(Purge::Used { known }) => Tried::Used { known },
@@ -276,9 +297,12 @@ impl Keeper {
             (managed limit self.new.book self.new.order self.new.pool) }
     {
         let _entries = self.book.entries();
+        let _drawn = self.book.grants();
         let mut removed = 0;
-        for place in 0..self.clients.len() {
-            removed += u64::from(self.let_go(client, place as u64 + 1));
+        let mut last = 0;
+        while let Some(id) = self.numbers.next(client, last) {
+            removed += u64::from(self.let_go(client, id));
+            last = id;
         }
         removed
     }

@@ -4,6 +4,7 @@
 
 mod answers;
 mod keeper;
+mod numbers;
 mod state;
 #[cfg(test)]
 mod tests;

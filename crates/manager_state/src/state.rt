@@ -67,7 +67,7 @@ impl State {
         ensures ok { IfOk result (λ side. Grants client pages now side self.old self.new) }
         ensures err { OnErr result (RunsOut pages now self.old self.new) }
     {
-        self.keeper.grow(alloc)?;
+        self.keeper.grow(alloc, client)?;
         self.keeper.fit(self.limit, pages, now);
         self.keeper.enter(alloc, client, pages, self.limit)
     }

@@ -2,6 +2,7 @@ use Rattle.std.proofs.Common.{ℕ, ap, ◌∙◌}
 use Rattle.segment.specs.Warded.{new_warden}
 use Rattle.manager_state.proofs.AgreesStays.{grant_agrees}
 use Rattle.manager_state.proofs.Entering.{enters}
+use Rattle.manager_state.proofs.KeptNumbers.{keeps_grant}
 use Rattle.manager_state.proofs.keeper.Keeper.enter.Goals as goal
 
 pub invariant_of-self-in-Ok : goal.invariant_of-self-in-Ok
@@ -11,6 +12,8 @@ invariant_of-self-in-Ok c =
       agrees = rw c.push_reserved.ensures.items
           (grant_agrees c.next_number-id.result c.args.client c.args.pages c.args.limit c.args.self.now.promised c.in-Ok.warden c.args.self.now.book c.add.new.self c.args.self.now.order c.add-in-Ok.new.self c.args.self.now.clients.items
           c.args.self.now.agrees c.next_number-id.ensures.drawn c.next_number-id.ensures.number c.requires.client c.requires.book c.add.ensures new c.add-in-Ok.ensures);
+      kept = keeps_grant c.next_number-id.result c.args.client c.args.pages c.args.limit c.args.self.now.book c.add.new.self c.args.self.now.clients.items c.args.self.now.numbers
+          c.args.self.now.agrees.told c.next_number-id.ensures.number c.requires.client c.add.ensures c.requires.number c.args.self.now.kept;
     }
 
 pub returns-in-Ok-clause-ok : goal.returns-in-Ok-clause-ok
