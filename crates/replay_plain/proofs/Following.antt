@@ -1,5 +1,5 @@
 -- What is kept of the granted segments follows each event.
-use Rattle.std.proofs.Common.{◌≡◌, ◌≢◌, ℕ, ◌+◌, ◌-◌, ◌<◌, ◌≤◌, ◌==◌, Bool, true, false, ◌||◌, cond, List, [], ◌∷◌, ◌++◌, length, set, Some, slice_get, count_by, zero, suc, zero-add, refl, sym, ap, ◌∙◌, subst, arith, eq-eqb, inl, inr}
+use Rattle.std.proofs.Common.{◌≡◌, ◌≢◌, ℕ, ◌+◌, ◌-◌, ◌<◌, ◌==◌, Bool, true, false, ◌||◌, cond, List, [], ◌∷◌, ◌++◌, length, set, Some, None, slice_get, count_by, zero, suc, zero-add, refl, sym, ap, ◌∙◌, subst, arith, eq-eqb, inl, inr}
 use Rattle.std.proofs.lemmas.Bool.{eqb-true, false≢true}
 use Rattle.std.proofs.lemmas.Bool.Decides.{nat_tests}
 use Rattle.std.proofs.lemmas.List.{length-set, length_push}
@@ -173,9 +173,14 @@ all_returned events id old new segment w is at changed pages =
     all_changed events (Back id) Purged id old new (record segment { live = false; plain = false }) refl refl is (has_place events old id w begun) changed
     (tells_returned h id segment Purged (inr refl) tells) (omega arith) w
 
--- no place, so the number was not granted
-pub no_place : (events : List Event) (kept : KnownSegments) (s : ℕ) → TellsAll events kept → length kept.table.items ≤ s → is_begun (answered events) s ≡ true → ⊥
-no_place events kept s w past begun = let place = has_place events kept s w begun in omega arith
+-- nothing is kept of it, so the number was not granted
+pub not_kept : (events : List Event) (kept : KnownSegments) (s : ℕ) → TellsAll events kept → slice_get kept.table.items s ≡ None → is_begun (answered events) s ≡ true → ⊥
+not_kept events kept s w none begun = there kept.table.items s (has_place events kept s w begun) none
+  where
+    there : (xs : List KnownSegment) (i : ℕ) → i < length xs → slice_get xs i ≡ None → ⊥
+    there [] i inside e = absurd (omega (arith, inside))
+    there (x ∷ xs) zero inside e = cc
+    there (x ∷ xs) (suc i) inside e = there xs i (omega (arith, inside)) e
 
 -- the next number is granted
 pub all_granted : (events : List Event) (id client pages : ℕ) (old new : KnownSegments) → TellsAll events old → answer events (Grant id client pages) ≡ Granted id

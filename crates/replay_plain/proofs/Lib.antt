@@ -1,7 +1,9 @@
 pub mod Places
 pub mod Effects
 pub mod Following
-pub mod Seeking
+pub mod Firsts
+pub mod Entries
+pub mod FrontIsLeast
 pub mod Standing
 pub mod Tries
 pub mod Returns

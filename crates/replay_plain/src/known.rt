@@ -1,8 +1,9 @@
 //! What a run keeps of the granted segments: what a reduction has to know of each.
-ghost use Rattle.std.specs.Prelude.{◌*◌, ◌≤◌, vec_len};
+ghost use Rattle.std.specs.Prelude.{◌*◌, ◌^◌, ◌<◌, ◌≤◌, length};
 ghost use Rattle.units.specs.declared.TheConstants.{MOST_PAGES};
 
-use crate::least::{Least, first_of};
+use crate::least::Least;
+use crate::table::Table;
 use std::alloc::Global;
 use units::NoMemory;
 
@@ -10,24 +11,25 @@ use units::NoMemory;
 #[derive(Clone, Copy)]
 pub(crate) struct KnownSegment {
     /// The client that it was granted to.
-    client: u32,
-    pages: u32,
+    pub(crate) client: u32,
+    pub(crate) pages: u32,
     /// The known use, a moment, or 0 where none is known.
-    known: u64,
+    pub(crate) known: u64,
     /// Granted, and neither purged nor given back.
-    live: bool,
+    pub(crate) live: bool,
     /// Granted, and not given back.
-    plain: bool,
+    pub(crate) plain: bool,
 }
 
 /// What is kept of all numbers that were drawn, and the pages of the live segments.
 #[derive(Drop)]
 pub(crate) struct KnownSegments {
     /// By number. The number 0 is never drawn, and its place says so.
-    table: Vec<KnownSegment>,
+    table: Table,
     pages: u128,
-    ghost some: { 1 ≤ vec_len table },
-    ghost bounded: { pages ≤ MOST_PAGES * vec_len table },
+    ghost some: { 1 ≤ length table.items },
+    ghost bounded: { pages ≤ MOST_PAGES * length table.items },
+    ghost few: { 2 * length table.items < 2 ^ 64 },
 }
 
 impl KnownSegments {
@@ -47,7 +49,7 @@ impl KnownSegments {
     pub(crate) fn new(alloc: Global) -> Result<KnownSegments, NoMemory>
         ensures { IfOk result (λ known. TellsAll [] known) }
     {
-        let mut table = Vec::new(alloc);
+        let mut table = Table::new(alloc);
         table.push(KnownSegment {
             client: 0,
             pages: 0,
@@ -60,7 +62,7 @@ impl KnownSegments {
 
     /// The number that the next grant draws.
     pub(crate) fn next(&self) -> u64
-        ensures { result ≡ vec_len self.now.table }
+        ensures { result ≡ length self.now.table.items }
     {
         self.table.len() as u64
     }
@@ -72,12 +74,12 @@ impl KnownSegments {
         self.pages
     }
 
-    /// The next number was granted.
+    /// The next number was granted. It takes the room for its known uses.
     pub(crate) fn granted(&mut self, client: u32, pages: u32) -> Result<(), NoMemory>
         requires few { pages ≤ MOST_PAGES }
         ensures { OnOk result ((events : List Event) (id : ℕ) → TellsAll events self.old
             → answer events (event.Grant id client pages) ≡ answers.Granted id
-            → id ≡ vec_len self.old.table
+            → id ≡ length self.old.table.items
             → TellsAll (events ++ event.Grant id client pages ∷ []) self.new) }
     {
         self.table.push(KnownSegment {
@@ -97,9 +99,9 @@ impl KnownSegments {
             → answer events (event.Try id now) ≡ answers.Used known
             → TellsAll (events ++ event.Try id now ∷ []) self.new }
     {
-        let place = id as usize;
-        if place < self.table.len() {
-            self.table[place].known = known;
+        if let Some(mut segment) = self.table.get(id) {
+            segment.known = known;
+            self.table.set(id, segment);
         }
     }
 
@@ -112,12 +114,11 @@ impl KnownSegments {
             → answer events (event.Try id now) ≡ answers.Taken
             → result ≡ known_use events id }
     {
-        let place = id as usize;
-        if place >= self.table.len() {
+        let Some(mut segment) = self.table.get(id) else {
             return 0;
-        }
-        let segment = &mut self.table[place];
+        };
         segment.live = false;
+        self.table.set(id, segment);
         self.pages = self.pages.saturating_sub(u128::from(segment.pages));
         segment.known
     }
@@ -128,11 +129,10 @@ impl KnownSegments {
             → answer events (event.Back id) ≡ answers.Counted
             → TellsAll (events ++ event.Back id ∷ []) self.new }
     {
-        let place = id as usize;
-        if place < self.table.len() {
-            let segment = &mut self.table[place];
+        if let Some(mut segment) = self.table.get(id) {
             segment.live = false;
             segment.plain = false;
+            self.table.set(id, segment);
             self.pages = self.pages.saturating_sub(u128::from(segment.pages));
         }
     }
@@ -143,20 +143,19 @@ impl KnownSegments {
             → answer events (event.Back id) ≡ answers.Purged
             → TellsAll (events ++ event.Back id ∷ []) self.new }
     {
-        let place = id as usize;
-        if place < self.table.len() {
-            let segment = &mut self.table[place];
+        if let Some(mut segment) = self.table.get(id) {
             segment.live = false;
             segment.plain = false;
+            self.table.set(id, segment);
         }
     }
 
     /// Whether the number is that of a client's segment that was not given back.
     pub(crate) fn has(&self, client: u32, id: u64) -> bool
-        ensures { (events : List Event) → TellsAll events self.now → id < vec_len self.now.table
+        ensures { (events : List Event) → TellsAll events self.now → id < length self.now.table.items
             → result ≡ (client_of (answered events) id == client && plain events id) }
     {
-        match self.table.get(id as usize) {
+        match self.table.get(id) {
             Some(segment) => segment.client == client && segment.plain,
             None => false,
         }
@@ -168,20 +167,9 @@ impl KnownSegments {
         ensures { (events : List Event) → TellsAll events self.now
             → result ≡ option_map least_told (least (live_segments events)) }
     {
-        let mut best = None;
-        for passed in 1..self.table.len() {
-            let number = self.table.len() - passed;
-            let segment = self.table[number];
-            if segment.live {
-                best = Some(first_of(
-                    best,
-                    Least {
-                        id: number as u64,
-                        known: segment.known,
-                    },
-                ));
-            }
+        match self.table.first() {
+            Some((known, id)) => Some(Least { id, known }),
+            None => None,
         }
-        best
     }
 }

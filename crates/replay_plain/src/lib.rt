@@ -9,6 +9,7 @@ mod reducing;
 mod reply;
 mod run;
 mod steps;
+mod table;
 
 pub use config::ReplayCfg;
 pub use laws::law_reductions_end;

@@ -1,16 +1,15 @@
-use Rattle.std.proofs.Common.{◌-◌, refl, ap, ◌∙◌, length, arith}
-use Rattle.std.proofs.lemmas.Option.{slice_get_read}
+use Rattle.std.proofs.Common.{◌-◌, sym, ap, ◌∙◌}
 use Rattle.machine.specs.declared.event.Answer.TheVariants.{Counted}
 use Rattle.machine.specs.Answers.{answered}
-use Rattle.replay_plain.proofs.Following.{all_counted, no_place, counted_not_misuse}
+use Rattle.replay_plain.proofs.Following.{all_counted, not_kept, counted_not_misuse}
 use Rattle.replay_plain.proofs.Effects.{returned_begun}
 use Rattle.replay_plain.proofs.known.KnownSegments.counted.Goals as goal
 
-pub returns-then-place-len : goal.returns-then-place-len
-returns-then-place-len c = λ events w is.
-    all_counted events c.args.id c.args.self.now _ c.index_mut-segment.result.now w is
-    (slice_get_read c.args.self.now.table.items (length c.args.self.now.table.items) c.args.id c.index_mut-segment.result.now refl (let inside = c.if-place-len.true in let whole = c.len.ensures in let sized = c.args.self.now.table.ok.0 in omega arith) c.index_mut-segment.ensures.value) refl (c.saturating_sub-self.ensures ∙ ap (λ n. c.args.self.now.pages - n) c.from.ensures)
+pub returns-in-Some : goal.returns-in-Some
+returns-in-Some c = λ events w is.
+    all_counted events c.args.id c.args.self.now _ _ w is (sym c.in-Some.ensures) c.set.ensures
+    (c.saturating_sub-self.ensures ∙ ap (λ n. c.args.self.now.pages - n) c.from.ensures)
 
-pub returns-else-place-len : goal.returns-else-place-len
-returns-else-place-len c = λ events w is.
-    absurd (no_place events c.args.self.now c.args.id w (let inside = c.if-place-len.false in let whole = c.len.ensures in let sized = c.args.self.now.table.ok.0 in omega arith) (returned_begun (answered events) c.args.id Counted is counted_not_misuse))
+pub returns-in_default : goal.returns-in_default
+returns-in_default c = λ events w is.
+    absurd (not_kept events c.args.self.now c.args.id w (sym c.in_default.ensures) (returned_begun (answered events) c.args.id Counted is counted_not_misuse))

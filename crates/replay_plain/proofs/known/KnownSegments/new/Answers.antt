@@ -8,4 +8,4 @@ blank = record { client = 0; pages = 0; known = 0; live = false; plain = false }
 
 pub returns : goal.returns
 unfolding blank
-returns c = none_kept _ (c.in_ok-push.ensures.items ∙ ap (λ (xs : List KnownSegment). xs ++ blank ∷ []) c.new-table.ensures.items) refl
+returns c = none_kept _ (c.in_ok-push.ensures.ok ∙ ap (λ (xs : List KnownSegment). xs ++ blank ∷ []) c.new-table.ensures) refl

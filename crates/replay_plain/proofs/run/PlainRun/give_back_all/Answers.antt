@@ -15,8 +15,6 @@ loop-id-preserved c =
                 returns_next c.args.client first c.loop-id.self t.give_back.new.self c.loop-id.id
                 (λ state stands drawn.
                 let whole = c.next-id-end.ensures in
-                let sized = c.args.self.now.known.table.ok.0 in
-                let other = c.loop-id.self.known.table.ok.0 in
                 let at = w.known.drawn in
                 let there = stands.known.drawn in
                 let more = c.loop-id-test.true in
@@ -32,8 +30,6 @@ loop-id-preserved c =
                 returns_passed c.args.client first c.loop-id.self c.loop-id.id
                 (λ state stands drawn.
                 let whole = c.next-id-end.ensures in
-                let sized = c.args.self.now.known.table.ok.0 in
-                let other = c.loop-id.self.known.table.ok.0 in
                 let at = w.known.drawn in
                 let there = stands.known.drawn in
                 let more = c.loop-id-test.true in
@@ -46,7 +42,6 @@ loop-id-preserved c =
 pub returns-clause-state : goal.returns-clause-state
 returns-clause-state c = λ first w.
     let whole = c.next-id-end.ensures in
-    let sized = c.args.self.now.known.table.ok.0 in
     let at = w.known.drawn in
     let over = c.loop-id-test.false in
     returns_over c.args.client first c.loop-id.self c.loop-id.id (omega arith) (c.loop-id.invariant.0 first w)

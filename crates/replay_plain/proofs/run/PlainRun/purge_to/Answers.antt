@@ -6,7 +6,6 @@ pub loop-init : goal.loop-init
 loop-init c = (
   λ first left w is.
       let whole = c.next.ensures in
-      let sized = c.args.self.now.known.table.ok.0 in
       tries_first c.args.limit c.args.now first c.args.self.now left w (omega arith),
   omega arith,
 )
