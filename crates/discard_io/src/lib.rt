@@ -21,12 +21,13 @@ mod writing;
 
 pub use clock::{Clock, CountClock};
 pub use files::{FileFault, Files};
-pub use gate::{Gate, OpenGate};
+pub use gate::{Gate, MeetGate, OpenGate};
 pub use memory::files::MemFiles;
 pub use memory::sink::MemSink;
 pub use memory::source::MemSource;
 pub use never::{NeverFiles, NeverSink, NeverSource};
 pub use reading::{ReadEnd, read_to_end};
+pub use real::clock::SystemClock;
 pub use real::files::DirFiles;
 pub use real::sink::StdSink;
 pub use real::source::StdSource;

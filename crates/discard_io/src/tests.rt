@@ -7,7 +7,7 @@ use std::alloc::Global;
 use std::io::{Read, Write};
 use std::sync::Wait;
 use std::test::Fail;
-use std::thread::Threads;
+use std::thread::{Threads, join};
 use std::{fs, io};
 use units::LAST_MOMENT;
 
@@ -91,15 +91,33 @@ fn counts_moments_and_passes(rt: HostRuntime) {
     assert!(rt; moment(&clock) == LAST_MOMENT - 1);
     assert!(rt; moment(&clock) == LAST_MOMENT);
     assert!(rt; moment(&clock) == LAST_MOMENT);
-    pass(&rt, &OpenGate::new());
+    pass(&rt, 1, 0, &OpenGate::new());
+}
+
+#[test]
+fn the_system_tells_the_time(rt: HostRuntime) {
+    // The year 2020 is behind us.
+    let moment = moment(&SystemClock::new(&rt));
+    assert!(rt; moment > 1_577_836_800_000_000 && moment <= LAST_MOMENT);
+}
+
+#[test]
+fn two_clients_meet(rt: HostRuntime) {
+    let gate = MeetGate::new();
+    let client = |who: u32| {
+        pass(&rt, who, 0, &gate);
+        pass(&rt, who, 1, &gate);
+    };
+    join(&rt, || client(1), || client(2));
+    assert!(rt; !gate.stuck() && gate.passes() == 4);
 }
 
 fn moment<C: Clock + Sync>(clock: &C) -> u64 {
     clock.now()
 }
 
-fn pass<H: Threads + Wait + Sync, G: Gate + Sync>(rt: &H, gate: &G) {
-    gate.pass(rt, 1, 0);
+fn pass<H: Threads + Wait + Sync, G: Gate + Sync>(rt: &H, who: u32, place: u64, gate: &G) {
+    gate.pass(rt, who, place);
 }
 
 #[test]
