@@ -1,0 +1,4 @@
+pub mod Config
+pub mod Generated
+pub mod Reply
+pub mod Report
