@@ -1,0 +1,7 @@
+pub mod PiecesAtPlaces
+pub mod SegmentsByNumber
+pub mod FrontGrows
+pub mod KeptThrough
+pub mod Losing
+pub mod AllFree
+pub mod Clients
