@@ -1,0 +1,10 @@
+pub mod Asked
+pub mod Ends
+pub mod Found
+pub mod Options
+pub mod Reading
+pub mod Rows
+pub mod Rules
+pub mod Sorts
+pub mod Steps
+pub mod Whole

@@ -1,0 +1,5 @@
+pub mod ClapWords
+pub mod Commands
+pub mod Orders
+pub mod Settings
+pub mod Words

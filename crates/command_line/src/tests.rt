@@ -1,0 +1,116 @@
+use crate::orders::{gen_order, serve_order};
+use crate::{Order, order_of};
+use replay_plain::ReplayCfg;
+use serve_plain::ServeCfg;
+use std::alloc::Global;
+use std::test::Fail;
+use tile_source::Tile;
+
+/// The words that stand between single spaces, none in an empty text.
+fn cut(alloc: Global, text: &str) -> Result<Vec<String>, Fail> {
+    let mut words = Vec::new(alloc);
+    if !text.is_empty() {
+        for word in text.split(' ') {
+            words.push(word.to_string(alloc)?)?;
+        }
+    }
+    Ok(words)
+}
+
+/// Whether these words ask for a replay with this limit, and keep this many blocks.
+fn replays(alloc: Global, text: &str, limit: u64, keep: u32) -> Result<bool, Fail> {
+    let words = cut(alloc, text)?;
+    let wanted = ReplayCfg {
+        limit,
+        standard: 64,
+        keep,
+    };
+    Ok(match order_of(alloc, &words)? {
+        Some(Order::Replay(cfg)) => cfg == wanted,
+        _ => false,
+    })
+}
+
+/// Whether these words ask for this tile of the file `a.pgm`, with this side.
+fn is_tile(alloc: Global, text: &str, wanted: Tile, pixels: u32) -> Result<bool, Fail> {
+    let words = cut(alloc, text)?;
+    Ok(match order_of(alloc, &words)? {
+        Some(Order::Tile { file, tile, side }) => {
+            file == "a.pgm" && tile == wanted && side == pixels
+        }
+        _ => false,
+    })
+}
+
+/// Whether these words after `serve` ask for the file `a.pgm` with these settings.
+fn serves(alloc: Global, text: &str, wanted: ServeCfg) -> Result<bool, Fail> {
+    let words = cut(alloc, text)?;
+    Ok(match serve_order(alloc, &words)? {
+        Some(Order::Serve { file, cfg }) => file == "a.pgm" && cfg == wanted,
+        _ => false,
+    })
+}
+
+fn is_refused(alloc: Global, text: &str) -> Result<bool, Fail> {
+    let words = cut(alloc, text)?;
+    Ok(order_of(alloc, &words)?.is_none())
+}
+
+#[test]
+fn lawful_words_ask(rt: HostRuntime) -> Result<(), Fail> {
+    let alloc = rt.alloc();
+    let last = Tile {
+        z: 6,
+        x: 65535,
+        y: 0,
+    };
+    assert!(rt;
+        replays(alloc, "replay", 1_048_576, 16)?
+            && replays(alloc, "replay --keep=0 --limit 7 --", 7, 0)?
+            && is_tile(alloc, "tile a.pgm 6 65535 0", last, 256)?
+            && is_tile(alloc, "tile --side 64 -- a.pgm 6 65535 0", last, 64)?
+    );
+    Ok(())
+}
+
+#[test]
+fn words_of_commands_to_come_ask(rt: HostRuntime) -> Result<(), Fail> {
+    let alloc = rt.alloc();
+    let wanted = ServeCfg {
+        rounds: 1000,
+        entries: 1,
+        ..ServeCfg::default()
+    };
+    assert!(rt; serves(alloc, "--rounds=1000 a.pgm --entries 1", wanted)?);
+    let words = cut(alloc, "999999")?;
+    assert!(rt; matches!(gen_order(alloc, &words)?, Some(Order::Gen(999_999))));
+    Ok(())
+}
+
+#[test]
+fn other_words_are_refused(rt: HostRuntime) -> Result<(), Fail> {
+    for text in [
+        "",
+        "--help",
+        "replay x",
+        "replay --help",
+        "replay -h",
+        "replay --limit",
+        "replay --limit=",
+        "replay --limit --",
+        "replay --limit 04",
+        "replay --limit -4",
+        "replay --limit 1048577",
+        "replay --lim 4",
+        "replay --keep 4 --keep=4",
+        "replay --standard 64",
+        "tile a.pgm 0 0",
+        "tile -- a.pgm 0 0 0 0",
+        "tile a.pgm 0 0 0 --side 100",
+        "serve a.pgm",
+        "gen 0",
+    ] {
+        assert!(rt; is_refused(rt.alloc(), text)?);
+    }
+    Ok(())
+}
