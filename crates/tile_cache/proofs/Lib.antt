@@ -1,0 +1,9 @@
+pub mod TilesAskedLast
+pub mod EntriesStay
+pub mod EntriesReordered
+pub mod OneMoreRequest
+pub mod ClientSteps
+pub mod CacheSteps
+pub mod Gets
+pub mod CallsDone
+pub mod Came

@@ -1,0 +1,59 @@
+use Rattle.std.proofs.Common.{◌≡◌, ◌||◌, ℕ, sym, ap, subst, ◌∙◌, refl, List, ◌≤◌}
+use Rattle.std.proofs.lemmas.Option.{same_Some}
+use Rattle.segment.specs.Owned.{Owned}
+use Rattle.span_heap.specs.Heap.{size_of}
+use Rattle.client.specs.Seen.{is_gone}
+use Rattle.client.specs.Granting.{AllocatesCounted, granted_pages}
+use Rattle.tile_cache.proofs.EntriesStay.{all_stay}
+use Rattle.tile_cache.proofs.ClientSteps.{name_on, name_allocated, unmoved_freed}
+use Rattle.tile_cache.proofs.CacheSteps.{wanted_is}
+use Rattle.tile_cache.proofs.Came.{name_none, gone_stays, stay_freed, put_front, or_cond}
+use Rattle.tile_cache.specs.Recent.{is_same}
+use Rattle.tile_cache.proofs.keeping.come.Goals as goal
+
+pub returns-in_default-clause-none : goal.returns-in_default-clause-none
+returns-in_default-clause-none g c = record {
+  entries = refl;
+  stay = all_stay c.args.granted.now.client c.allocate.new.self.client c.args.entries.now.entries c.allocate.ensures.stay c.requires.owned.owned;
+  gone = gone_stays c.args.granted.now.client c.allocate.new.self.client c.allocate.ensures.gone;
+  name = name_none c.args.size c.in_default.field-0 c.args.granted.now c.allocate.new.self c.in_default.ensures.large c.in_default.ensures.out;
+  start = c.allocate.ensures.start;
+  shown = λ other. c.in_ok-reserve.ensures.keys.2 other;
+}
+
+pub returns-in-Err-clause-none : goal.returns-in-Err-clause-none
+returns-in-Err-clause-none g c =
+    let ok = c.in-Ok.ensures.ok in
+    let is : c.in-Err.failed.value.1 ≡ c.in-Ok.piece = ap (λ p. p.1) c.in-Err.ensures.value_returned in
+    let frees = rw is at c.free.ensures.frees in
+    let unmoved = unmoved_freed c.free.result c.in-Ok.piece c.args.now c.allocate.new.self.client c.free.new.self.client frees in
+    let gone = gone_stays c.args.granted.now.client c.allocate.new.self.client c.allocate.ensures.gone in
+    record {
+      entries = ap (λ l. l.entries) c.in-Err.ensures.err;
+      stay = stay_freed c.free.result ok.0 c.args.now c.in-Ok.piece c.args.granted.now.client c.allocate.new.self.client c.free.new.self.client c.args.entries.now.entries c.requires.owned (wanted_is c.args.size ok.0 ok.1).1 ok.3 c.allocate.ensures.stay frees (rw is at c.free.ensures.stay);
+      gone = λ id was. rw unmoved.gone (gone id was);
+      name = name_on c.args.granted.now.client c.allocate.new.self.client c.free.new.self.client (name_allocated ok.0 c.in-Ok.piece c.args.granted.now.client c.allocate.new.self.client ok.2) unmoved.goes.name;
+      start = ap (λ s. s.start) c.free.ensures.same ∙ c.allocate.ensures.start;
+      shown = λ other. c.in_ok-reserve.ensures.keys.2 other;
+    }
+
+pub returns-clause-comes : goal.returns-clause-comes
+returns-clause-comes g c =
+    let ok = c.in-Ok.ensures.ok in
+    let counted = c.in-Ok.ensures.grants in
+    let sized = c.in-Ok.ensures.size in
+    let one : counted.0 ≡ ok.0 = same_Some _ _ (sym counted.1 ∙ ok.1) in
+    let two : sized.0 ≡ ok.0 = same_Some _ _ (sym sized.1 ∙ ok.1) in
+    record {
+      piece = c.in-Ok.piece;
+      pages = ok.0;
+      wants = ok.1;
+      entries = ap (λ l. l.entries) c.in_default-put.ensures.entries ∙ put_front c.args.entries.now c.args.tile c.in-Ok.piece c.requires.absent c.requires.room;
+      fresh = ok.3;
+      counted = rw one at counted.2;
+      stay = c.allocate.ensures.stay;
+      gone = gone_stays c.args.granted.now.client c.allocate.new.self.client c.allocate.ensures.gone;
+      fits = rw two at sized.2;
+      start = c.allocate.ensures.start;
+      shown = λ other. c.in-Ok-insert.ensures.updates.0 other ∙ (or_cond (is_same c.args.tile other) _ ∙ ap (λ b. is_same c.args.tile other || b) (c.in_ok-reserve.ensures.keys.2 other));
+    }
