@@ -72,13 +72,13 @@ int main(int argc, char **argv) {
 """
 
 
-def compiled(folder, name, source):
+def compiled(folder, name, source, *options):
     """A program in C, built in a folder."""
     program = os.path.join(folder, name)
     if not os.path.exists(program):
         with open(program + ".c", "w") as file:
             file.write(source)
-        subprocess.run(["gcc", "-O2", "-o", program, program + ".c"], check=True)
+        subprocess.run(["gcc", "-O2", *options, "-o", program, program + ".c"], check=True)
     return program
 
 

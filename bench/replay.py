@@ -28,6 +28,7 @@ TURNS = 101
 MOST_BYTES = 1 << 20
 COUNTS = (64, 512, 4096)
 SEGMENTS = (256, 1024)
+PIECES = (250, 1000)
 
 
 def mixed(count):
@@ -84,20 +85,50 @@ def pressure(count):
     return lines, [f"segment {at}" for at in range(1, count + 1)] + [f"reduced {count} {at}" for at in moments]
 
 
+def allocations(count):
+    """Pieces of one page that fill 16 pages of each segment, with locks and unlocks, and purges by reductions; then all are freed."""
+    lines = []
+    for at in range(1, count + 1):
+        lines += [f"alloc 1 4096 {at}", f"punlock {at} {at}"]
+        if at % 16 == 0:
+            lines += [f"plock {at - 9}", f"punlock {at - 9} {at}", f"reduce {count // 2} {at + 1}"]
+    return lines + [f"pfree {at} {count + 1}" for at in range(1, count + 1)]
+
+
+def live_pieces(count):
+    """Commands up to 4,096 over so many pieces that are there, a page each: locks, writes, reads and unlocks; every fifth is freed and
+    another is allocated."""
+    lines = [f"alloc 1 4096 {at}" for at in range(1, count + 1)] + [f"punlock {at} {at}" for at in range(1, count + 1)]
+    there, drawn, at = list(range(1, count + 1)), count, count
+    while len(lines) < 4090:
+        place, at = at % count, at + 1
+        number = there[place]
+        lines += [f"plock {number}", f"pwrite {number} 5 00ff", f"pread {number} 5 2", f"punlock {number} {at}"]
+        if place % 5 == 0 and drawn < 1024:
+            drawn += 1
+            there[place] = drawn
+            lines += [f"pfree {number} {at}", f"alloc 1 4096 {at}", f"punlock {drawn} {at}"]
+    return lines
+
+
 def text(lines):
     return "".join(line + "\n" for line in lines).encode()
 
 
 class Script:
-    def __init__(self, folder, name, lines, replies=None, limit=None, turns=TURNS):
+    def __init__(self, folder, name, lines, replies=None, limit=None, standard=None, turns=TURNS):
         self.name = name
         self.turns = turns
-        self.words = ["replay"] if limit is None else ["replay", "--limit", str(limit)]
+        self.words = ["replay"]
+        if limit is not None:
+            self.words += ["--limit", str(limit)]
+        if standard is not None:
+            self.words += ["--standard", str(standard)]
         if replies is None:
-            most = model.MOST_LIMIT if limit is None else limit
-            replies = replays.text_of(model.commands_of(text(lines)), most, 64).decode().splitlines()
+            replies = replays.text_of(model.commands_of(text(lines)), limit or model.MOST_LIMIT, standard or 64).decode().splitlines()
         self.commands = sum(not line.startswith("#") for line in lines)
-        self.granted = 4 * sum(int(line.split()[2]) for line in lines if line.startswith("grant"))
+        grown = sum(" new " in reply for reply in replies) * (standard or 64)
+        self.granted = 4 * (grown + sum(int(line.split()[2]) for line in lines if line.startswith("grant")))
         self.bytes = text(lines)
         self.replies = text(replies)
         self.path = os.path.join(folder, name.replace(" ", "-"))
@@ -114,6 +145,10 @@ def scripts(folder):
     for count in SEGMENTS:
         yield Script(folder, f"low limit {count}", low_limit(count), limit=count // 2)
         yield Script(folder, f"pressure {count}", *pressure(count), turns=3)
+    yield Script(folder, "allocations 1024", allocations(1024), standard=16)
+    for count in PIECES:
+        yield Script(folder, f"allocations {count}", allocations(count), standard=16)
+        yield Script(folder, f"live pieces {count}", live_pieces(count), standard=16)
 
 
 def knows(program, script):
@@ -167,6 +202,12 @@ def tell(folder, program, every, times):
         print(f"  pressure: a reduction that tries {many} segments costs {growth:.2f} times one that tries {few}")
         growth = above[f"low limit {many}"].median / above[f"low limit {few}"].median
         print(f"  low limit: {many} grants cost {growth:.2f} times {few}")
+    few, many = PIECES
+    if f"live pieces {many}" in above:
+        growth = above[f"allocations {many}"].median / above[f"allocations {few}"].median
+        print(f"  allocations: {many} pieces cost {growth:.2f} times {few}")
+        growth = above[f"live pieces {many}"].median / above[f"live pieces {few}"].median
+        print(f"  live pieces: some 4,090 commands over {many} pieces cost {growth:.2f} times those over {few}")
 
 
 if __name__ == "__main__":

@@ -27,14 +27,18 @@ class Case:
         self.report_to = None
         self.limit = None
         self.seconds = 20
+        # How often it is run: so many times, and so many where all is to be run.
+        self.runs = 1, 1
+        # Whether the model gave the outcome.
+        self.by_model = False
         # What is wanted; None where a case says nothing of it.
         self.status = None
         self.output = None
         self.report = None
 
     def is_plain(self):
-        """Whether the model has an answer: ordinary devices, and ample memory."""
-        return not (self.input_from or self.output_to or self.report_to or self.limit or self.odd_files)
+        """Whether the model has an answer of its own: ordinary devices, and ample memory."""
+        return not (self.by_model or self.input_from or self.output_to or self.report_to or self.limit or self.odd_files)
 
 
 # Makers: what stands between braces, by its first word.
@@ -152,7 +156,7 @@ def choices_of(block):
 
 def case_of(block, given):
     case = Case(text_of(block[0][1], given).decode(errors="replace"))
-    by_model = False
+    served = False
     for key, rest, lines in block[1:]:
         rest, lines = rest.strip(), "".join(line + "\\n" for line in lines)
         text = lambda rest=rest, lines=lines: text_of(rest + lines, given)
@@ -169,6 +173,9 @@ def case_of(block, given):
             setattr(case, key.replace("-", "_"), text_of(rest, given).decode())
         elif key == "seconds":
             case.seconds = int(rest)
+        elif key == "runs":
+            few, many = text().split()
+            case.runs = int(few), int(many)
         elif key == "output":
             case.output = text()
         elif key == "report":
@@ -180,13 +187,17 @@ def case_of(block, given):
         elif key == "random":
             kind, seed = text_of(rest, given).decode().rsplit(" ", 1)
             case.words, case.input, case.files = getattr(draws, kind.replace(" ", "_"))(seed)
-            by_model = True
+            case.by_model = True
         elif key == "by-model":
-            by_model = True
+            case.by_model = True
+        elif key == "served":
+            served = True
         elif key != "each":
             raise Bad(f"{case.name}: no such key: {key}")
-    if by_model:
+    if case.by_model:
         case.status, case.output, case.report = model.outcome(case.words, case.input, case.files)
+    if served:
+        case.status, _, case.report = model.outcome(case.words, case.input, case.files)
     return case
 
 

@@ -121,10 +121,127 @@ def long_managed_script(seed):
     return managed_words(draw), "".join(" ".join(line) + "\n" for line in lines).encode(), {}
 
 
-def managed_words(draw):
+PIECES = {
+    "alloc": 5, "plock": 6, "punlock": 8, "pwrite": 4, "pread": 4, "pfree": 3, "sweep": 1, "release": 1, "runs": 2, "grant": 0.5, "lock": 0.5,
+    "unlock": 1, "write": 0.5, "read": 0.5, "try": 3, "back": 0.5, "reduce": 1, "enforce": 1, "pressure": 0.5, "limit": 0.3, "remove": 0.1,
+    "granted": 1,
+}  # fmt: skip
+
+
+def piece_script(seed):
+    """A lawful script of every command, most of them on pieces of two or three clients."""
+    draw = random.Random(f"piece script {seed}")
+    standard, most = draw.choice(((1, 3), (2, 3), (4, 6), (4, 6), (16, 20), (64, 80), (512, 512)))
+    given = managed_words(draw, (0, 1, 4, 8, 20, 60, 300, 2000, 1048576)) + option(draw, "--standard", standard)
+    return given, text_of(draw, on_pieces(draw, draw.choice((10, 30, 100, 300)), most)), {}
+
+
+def long_piece_script(seed):
+    """The same with 4,096 lines, each a command."""
+    draw = random.Random(f"long piece script {seed}")
+    standard, most = draw.choice(((2, 3), (4, 6), (8, 8), (64, 40)))
+    given = managed_words(draw, (8, 20, 60, 200, 1000, 1048576)) + option(draw, "--standard", standard)
+    lines = on_pieces(draw, 4096, most)
+    return given, "".join(" ".join(line) + "\n" for line in lines).encode(), {}
+
+
+def heap_script(seed):
+    """A lawful script that makes, frees and asks for the runs of one heap with runs of up to 512 pages, and purges little."""
+    draw = random.Random(f"heap script {seed}")
+    lines, live, now = [], [], 1
+    for _ in range(draw.choice((50, 200, 600))):
+        now += 1
+        kind = draw.choices(("alloc", "pfree", "runs", "sweep", "release", "reduce"), (6, 5, 3, 0.3, 0.2, 0.1))[0]
+        if kind == "alloc" and len(lines) < 1000:
+            live.append(sum(line[0] == "alloc" for line in lines) + 1)
+            pages = draw.choice((1, 1, 2, 3, 5, 17, 100, 254, 255, 256, 257, 300, 511, 512, draw.randrange(1, 513)))
+            lines.append(["alloc", "1", str(4096 * pages - draw.choice((0, 0, 1, 4095))), str(now)])
+        elif kind == "pfree" and live:
+            lines.append(["pfree", str(live.pop(draw.randrange(len(live)))), str(now)])
+        elif kind == "reduce":
+            lines.append([kind, "0", str(now)])
+        elif kind in ("sweep", "release", "runs"):
+            lines.append([kind, "1"])
+    return [b"replay", b"--standard", b"%d" % draw.choice((1, 64, 300, 512))], text_of(draw, lines), {}
+
+
+def on_pieces(draw, count, most):
+    """Commands of which most hit pieces that are there, and in the state that they need."""
+    segments, pieces, lines, now = [], [], [], 1
+    granted = 0
+    while len(lines) < count:
+        now += draw.choice((0, 0, 1, 1, 5))
+        moment = str(draw.choice((now, now, now, now, now, draw.randrange(1, now + 1), LAST_MOMENT)))
+        kind = draw.choices(list(PIECES), PIECES.values())[0]
+        if kind in ("alloc", "grant"):
+            granted += 1
+            if granted > 1024:
+                lines.append(["granted"])
+            elif kind == "grant":
+                lines.append(small_grant(draw, segments, now))
+            else:
+                pages = draw.randrange(1, most + 1)
+                pieces.append(DrawnPiece(pages))
+                lines.append([kind, str(draw.randrange(1, 4)), str(4096 * pages - draw.choice((0, 1, 2000, 4095))), str(now)])
+        elif kind in ("plock", "punlock", "pwrite", "pread", "pfree"):
+            lines.append(on_piece(draw, kind, pieces, moment))
+        elif kind in ("sweep", "release", "runs", "remove"):
+            lines.append([kind, str(draw.randrange(1, 5))])
+        elif kind in ("reduce", "limit"):
+            lines.append([kind, str(draw.choice((0, 1, 3, 8, 20, 60, 200))), moment])
+        elif kind == "enforce":
+            lines.append([kind, moment])
+        elif kind == "pressure":
+            lines.append([kind, draw.choice(("moderate", "critical")), moment])
+        elif kind == "granted":
+            lines.append([kind])
+        elif kind == "try":
+            lines.append([kind, str(draw.randrange(1, granted + 2)), moment])
+        else:
+            number = draw.randrange(1, granted + 2)
+            lines.append([kind, str(number)])
+            if kind != "back":
+                lines[-1] += values(draw, kind, draw.choice(segments or [Drawn(2)]), int(moment))
+    return lines
+
+
+class DrawnPiece:
+    """A piece of a script that is drawn: how many pages it has, and whether it may be locked, and there."""
+
+    def __init__(self, pages):
+        self.pages = pages
+        self.locked = True
+        self.there = True
+
+
+def on_piece(draw, kind, pieces, moment):
+    wanted = [at for at, piece in enumerate(pieces) if piece.there and piece.locked == (kind != "plock")]
+    if not wanted or draw.random() < 0.05:
+        number = draw.choice((0, LAST_NUMBER, len(pieces) + 1, draw.randrange(len(pieces) + 1)))
+        piece = DrawnPiece(2)
+    else:
+        at = draw.choice(wanted[-12:])
+        number, piece = at + 1, pieces[at]
+    if kind == "plock":
+        piece.locked = True
+        return [kind, str(number)]
+    if kind == "punlock":
+        piece.locked = False
+        return [kind, str(number), moment]
+    if kind == "pfree":
+        piece.there = False
+        return [kind, str(number), moment]
+    count = draw.choice((1, 2, 3, 17, 64))
+    end = piece.pages * 4096
+    place = draw.choice((0, 0, 0, 0, 4095, 4096, end - count, end - 1, draw.randrange(end)))
+    place = min(max(0, place), 2097151)
+    return [kind, str(number), str(place), str(count) if kind == "pread" else bytes_of(draw, count).hex()]
+
+
+def managed_words(draw, limits=(0, 1, 4, 8, 20, 60, 200, 1048576)):
     given = [b"replay"]
     if draw.random() < 0.8:
-        given += option(draw, "--limit", draw.choice((0, 1, 4, 8, 20, 60, 200, 1048576)))
+        given += option(draw, "--limit", draw.choice(limits))
     if draw.random() < 0.5:
         given += option(draw, "--keep", draw.choice((0, 1, 2, 16, 256)))
     return given

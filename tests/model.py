@@ -7,6 +7,8 @@ of one run with ordinary devices and ample memory.
 import re
 
 import replays
+import serves
+import tiles
 
 LAST_MOMENT = 1 << 62
 LAST_NUMBER = (1 << 64) - 1
@@ -15,6 +17,7 @@ MOST_SCRIPT_BYTES = 1_048_576
 MOST_COMMANDS = 4096
 MOST_GRANTS = 1024
 MOST_LIMIT = 1_048_576
+MOST_REQUESTS = 4096
 MOST_SIDE = 8192
 
 STATUS = {"done": 0, "no memory": 1, "usage": 2, "bad input": 3, "read fault": 4, "write fault": 5, "file fault": 6}
@@ -39,20 +42,43 @@ class FileFault(Exception):
 def outcome(words, script, files):
     """Status, output and report of a run with these words, this standard input, and these files by name."""
     try:
-        return STATUS["done"], run(words, script, files), b""
+        return STATUS["done"], *run(words, script, files)
     except (Refused, Usage, FileFault) as end:
         return STATUS[end.kind], b"", b"discard: %s\n" % end.line.encode()
 
 
-def run(words, script, files):
+def run(words, given, files):
+    """What a run that ends well writes on the output and on the report."""
     command, positional, options = order_of(words)
     if command == b"replay":
-        return replays.text_of(commands_of(script), options.get(b"--limit", MOST_LIMIT), options.get(b"--standard", 64))
-    name, z, x, y = positional
+        text = replays.text_of(commands_of(given), options.get(b"--limit", MOST_LIMIT), options.get(b"--standard", 64))
+        return text, b""
+    if command == b"gen":
+        image, requests = serves.generated(*positional)
+        replies = serves.reply_of(image, serves.GENERATED.side, requests)
+        return serves.gen_line(*positional, replies), serves.Report(serves.GENERATED, requests)
+    name, *tile = positional
     if name not in files:
         raise FileFault
     image = image_of(files[name])
-    return tile_text(image, z, x, y, options.get(b"--side", 256))
+    if command == b"tile":
+        return tiles.text_of(image, *tile, options.get(b"--side", 256)), b""
+    settings = settings_of(options)
+    requests = requests_of(given, settings.clients)
+    return serves.reply_of(image, settings.side, requests), serves.Report(settings, requests)
+
+
+def settings_of(options):
+    """The settings of `serve`."""
+    return serves.Settings(
+        clients=options.get(b"--clients", 4),
+        limit=options.get(b"--limit", 16384),
+        side=options.get(b"--side", 256),
+        entries=options.get(b"--entries", 256),
+        rounds=options.get(b"--rounds", 0),
+        standard=options.get(b"--standard", 64),
+        keep=options.get(b"--keep", 16),
+    )
 
 
 # The command line
@@ -82,6 +108,23 @@ def side(word):
 WORDS = {
     b"replay": ([], {b"--limit": in_range(0, MOST_LIMIT), b"--keep": in_range(0, 256)}),
     b"tile": ([file_name, in_range(0, 6), in_range(0, 65535), in_range(0, 65535)], {b"--side": side}),
+}
+
+# Those that are to come, and are refused until then; `replay` gets `--standard` with the pieces.
+WORDS_TO_COME = {
+    b"serve": (
+        [file_name],
+        {
+            b"--clients": in_range(1, 64),
+            b"--limit": in_range(0, MOST_LIMIT),
+            b"--side": side,
+            b"--entries": in_range(1, 4096),
+            b"--rounds": in_range(0, 1000),
+            b"--standard": in_range(1, 512),
+            b"--keep": in_range(0, 256),
+        },
+    ),
+    b"gen": ([in_range(0, 999999)], {}),
 }
 
 
@@ -138,6 +181,8 @@ PAGES = in_range(1, 512)
 PLACE = in_range(0, 2097151)
 COUNT = in_range(1, 4096)
 LIMIT = in_range(0, MOST_LIMIT)
+SIZE = in_range(0, 2097152)
+PIECE = in_range(0, LAST_NUMBER)
 
 
 def level(word):
@@ -158,6 +203,19 @@ COMMANDS = {
     b"limit": (LIMIT, MOMENT),
     b"remove": (CLIENT,),
     b"granted": (),
+}
+
+# Those that are to come, and are refused until then.
+COMMANDS_TO_COME = {
+    b"alloc": (CLIENT, SIZE, MOMENT),
+    b"plock": (PIECE,),
+    b"punlock": (PIECE, MOMENT),
+    b"pwrite": (PIECE, PLACE, hex_of),
+    b"pread": (PIECE, PLACE, COUNT),
+    b"pfree": (PIECE, MOMENT),
+    b"sweep": (CLIENT,),
+    b"release": (CLIENT,),
+    b"runs": (CLIENT,),
 }
 
 NO_COMMAND, WRONG_COUNT, NO_NUMBER, NO_BYTES, TOO_MANY, TOO_LONG = range(1, 7)
@@ -199,7 +257,28 @@ def commands_of(script):
     return commands
 
 
-# Images and tiles
+# Requests
+
+
+def requests_of(text, clients):
+    """The requests of a text, each as its client, zoom, column and row."""
+    if len(text) > MOST_SCRIPT_BYTES:
+        raise Refused(MOST_SCRIPT_BYTES, TOO_LONG)
+    readings = (in_range(1, clients), in_range(0, 6), in_range(0, 65535), in_range(0, 65535))
+    requests = []
+    for at, words in lines_of(text):
+        if len(words) != len(readings):
+            raise Refused(at, WRONG_COUNT)
+        values = [reading(word) for reading, word in zip(readings, words)]
+        if None in values:
+            raise Refused(at, NO_NUMBER)
+        if len(requests) == MOST_REQUESTS:
+            raise Refused(at, TOO_MANY)
+        requests.append(values)
+    return requests
+
+
+# Images
 
 BAD_MAGIC, BAD_NUMBER, TOO_LARGE, SHORT, WIDE_SAMPLES = range(11, 16)
 
@@ -231,7 +310,8 @@ def image_of(data):
     width, height = sides
     if len(data) - at < width * height:
         raise Refused(len(data), SHORT)
-    return width, height, maxval, bytes(min(sample, maxval) for sample in data[at : at + width * height])
+    within = bytes(min(sample, maxval) for sample in range(256))
+    return width, height, maxval, data[at : at + width * height].translate(within)
 
 
 def behind(pattern, data, at):
@@ -248,21 +328,3 @@ def digits(data, at):
     if not significant:
         raise Refused(at, BAD_NUMBER)
     return int(significant), found.end()
-
-
-def tile_text(image, z, x, y, side):
-    width, height, maxval, samples = image
-    scale, area = 1 << z, 1 << 2 * z
-    tile = bytearray(side * side)
-    for v in range(side):
-        top = (y * side + v) * scale
-        if top >= height:
-            break
-        for u in range(side):
-            left = (x * side + u) * scale
-            if left >= width:
-                break
-            rows = range(top, min(top + scale, height))
-            total = sum(sum(samples[row * width + left : row * width + min(left + scale, width)]) for row in rows)
-            tile[v * side + u] = (total + area // 2) // area
-    return b"P5\n%d %d\n%d\n" % (side, side, maxval) + tile

@@ -1,7 +1,8 @@
 #!/usr/bin/env python3
 """Runs the built program on the cases of tests/cases, and prints each that fails.
 
-    python3 tests/run.py [TEXT]     all cases, or those whose name contains TEXT
+    python3 tests/run.py [TEXT]          all cases, or those whose name contains TEXT
+    python3 tests/run.py --often [TEXT]  the same; a case of threads is run hundreds of times
 
 The program is crates/discard/out/discard, as `rt ci` or `rt run` leaves it. Where it is not there, or older than the
 sources, `rt run` proves and builds it first. The variable DISCARD names another program. The last line is
@@ -59,7 +60,11 @@ def program():
 
 
 def run(case, program, room):
-    """What a case came to: None, or what was wanted and what came."""
+    """What the runs of a case came to: None, or what was wanted and what came in the first that failed."""
+    return next(filter(None, (run_once(case, program, room) for _ in range(case.runs[OFTEN]))), None)
+
+
+def run_once(case, program, room):
     with tempfile.TemporaryDirectory(dir=room) as folder:
         status, output, report = ends(case, program, folder)
     wrong = []
@@ -187,10 +192,11 @@ def shown(value):
 
 
 CASES = []
+OFTEN = "--often" in sys.argv[1:]
 
 
 def main():
-    pattern = sys.argv[1] if len(sys.argv) > 1 else ""
+    pattern = next((word for word in sys.argv[1:] if word != "--often"), "")
     try:
         CASES.extend(it for it in case_files.cases_in(os.path.join(TOP, "tests", "cases")) if pattern in it.name)
     except case_files.Bad as error:
