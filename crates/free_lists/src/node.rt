@@ -77,7 +77,8 @@ pub(crate) fn link(nodes: &mut Vec<Node>, node: usize, class: u32)
 /// Takes a node out of its ring.
 pub(crate) fn unlink(nodes: &mut Vec<Node>, node: usize)
     requires node { node < length nodes.old.items }
-    requires prev { (prev_of nodes.old.items node < length nodes.old.items) × (next_of nodes.old.items node < length nodes.old.items) }
+    requires prev { (prev_of nodes.old.items node < length nodes.old.items)
+        × (next_of nodes.old.items node < length nodes.old.items) }
     ensures { nodes.new.items ≡ unlinked nodes.old.items node }
 {
     let Node { prev, next, .. } = nodes[node];

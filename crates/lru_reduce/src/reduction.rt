@@ -53,8 +53,8 @@ impl Order {
         requires live { live book.old.entries ≡ segments_of self.old.sides }
         requires granted { granted.old ≡ total_pages self.old.sides }
         requires spare { length self.old.sides + 1 ≤ book.old.spare }
-        ensures reduces { ReducesTo limit now result.least result.purges self.old.sides self.new.sides
-            book.old.entries book.new.entries pool.old pool.new }
+        ensures reduces { ReducesTo limit now result.least result.purges
+            self.old.sides self.new.sides book.old.entries book.new.entries pool.old pool.new }
         ensures told { TellsEnd limit now result.after result.least self.new.sides }
         ensures granted { granted.new ≡ total_pages self.new.sides }
         ensures live { live book.new.entries ≡ segments_of self.new.sides }

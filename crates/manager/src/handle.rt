@@ -66,7 +66,13 @@ impl<F: Fixed, G: Ledger, E: Ledger> Manager<PlainReturns, F, G, E> {
     /// A handle of a manager that `new` made.
     pub fn handle(&self) -> Handle<'_, PlainReturns, F, G, E>
         requires { F.counts ≡ false }
-        ensures { result ≡ record { shares = None; base = 0; grants = 0; returns = 0; greatest = 0 } }
+        ensures { result ≡ record {
+          shares = None;
+          base = 0;
+          grants = 0;
+          returns = 0;
+          greatest = 0;
+        } }
     {
         let (_returns, pass, _taker) = PlainReturns::new();
         Handle {

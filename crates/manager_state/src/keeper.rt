@@ -161,7 +161,8 @@ impl Keeper {
         requires book { self.old.promised + 2 ≤ self.old.book.spare }
         requires order { 1 ≤ self.old.order.spare }
         requires clients { vec_len self.old.clients < vec_capacity self.old.clients }
-        requires number { has_pair self.old.numbers client (length self.old.clients.items + 1) ≡ true }
+        requires number { has_pair self.old.numbers client (length self.old.clients.items + 1)
+            ≡ true }
         ensures ok { IfOk result (λ side. Enters client pages side
             (managed limit self.old.book self.old.order self.old.pool)
             (managed limit self.new.book self.new.order self.new.pool)) }

@@ -1,3 +1,5 @@
+ghost use Rattle.std.specs.Prelude.{◌≤◌};
+
 use crate::{Note, PlainReturns, Returns, RuledReturns};
 use std::alloc::Global;
 use std::process::Abort;
@@ -8,6 +10,9 @@ use std::thread::Threads;
 
 /// How often a thread of a test tries at most.
 const TURNS: u64 = 10_000_000;
+
+/// How many notes each thread gives.
+const EACH: u64 = 5_000;
 
 fn note(client: u32, id: u64) -> Note {
     Note {
@@ -73,8 +78,13 @@ fn give_all<Q: Returns, R: Wait>(
     given
 }
 
+/// Whether a number is one more than the last.
+fn is_next(last: u64, id: u64) -> bool {
+    id.checked_sub(last) == Some(1)
+}
+
 /// Takes notes of two clients, and tells whether `count` of them came, those of each client in
-/// order.
+/// order, each once.
 fn take_all<Q: Returns, R: Wait>(rt: &R, queue: &Q, taker: &mut Q::Taker, count: u64) -> bool
     requires { Q.is_taker (Q.name queue.now) taker.old }
     ensures { Q.is_taker (Q.name queue.now) taker.new }
@@ -85,8 +95,8 @@ fn take_all<Q: Returns, R: Wait>(rt: &R, queue: &Q, taker: &mut Q::Taker, count:
             break;
         }
         match queue.take(rt, taker) {
-            Some(note) if note.client == 1 && note.id > first => first = note.id,
-            Some(note) if note.client == 2 && note.id > second => second = note.id,
+            Some(note) if note.client == 1 && is_next(first, note.id) => first = note.id,
+            Some(note) if note.client == 2 && is_next(second, note.id) => second = note.id,
             Some(_) => return false,
             None => thread::yield_now(),
         }
@@ -119,18 +129,18 @@ where
                 rt,
                 move || -> u64
                     requires { Q.is_pass (Q.name queue.now) first }
-                { give_all(rt, queue, &mut first, 1, 1000) },
+                { give_all(rt, queue, &mut first, 1, EACH) },
                 move || -> u64
                     requires { Q.is_pass (Q.name queue.now) second }
-                { give_all(rt, queue, &mut second, 2, 1000) },
+                { give_all(rt, queue, &mut second, 2, EACH) },
             );
             one.saturating_add(two)
         },
         move || -> bool
             requires { Q.is_taker (Q.name queue.now) taker }
-        { take_all(rt, queue, &mut taker, 2000) },
+        { take_all(rt, queue, &mut taker, 2 * EACH) },
     );
-    given == 2000 && taken
+    given == 2 * EACH && taken
 }
 
 #[test]
@@ -139,10 +149,19 @@ fn notes_come_back_in_order(rt: HostRuntime) -> Result<(), Fail> {
     Ok(())
 }
 
+/// The same over a queue of this capacity.
+fn meet_over<R: Threads + Wait + Sync>(rt: &R, alloc: Global, capacity: u32) -> Result<bool, Fail>
+    requires { (1 ≤ capacity) × (capacity ≤ 4096) }
+{
+    let (queue, mut first, taker) = RuledReturns::new(alloc, capacity)?;
+    let second = queue.split(&mut first);
+    Ok(meet(rt, &queue, first, second, taker))
+}
+
 #[test]
 fn two_threads_give_and_one_takes(rt: HostRuntime) -> Result<(), Fail> {
-    let (queue, mut first, taker) = RuledReturns::new(rt.alloc(), 3)?;
-    let second = queue.split(&mut first);
-    assert!(rt; meet(&rt, &queue, first, second, taker));
+    assert!(rt; meet_over(&rt, rt.alloc(), 1)?);
+    assert!(rt; meet_over(&rt, rt.alloc(), 3)?);
+    assert!(rt; meet_over(&rt, rt.alloc(), 4_096)?);
     Ok(())
 }

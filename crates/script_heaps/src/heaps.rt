@@ -140,7 +140,9 @@ impl ScriptHeaps {
         ensures { OnOk result ((before : Heaps) (run : Run) (n : ℕ)
             → Shows self.old (with_next (with_client before client
             (taken (before.clients client) run n)) client (front_of run n))
-            → has (before.clients client) run.segment ≡ true → Shows self.new (with_client before client (lost (before.clients client) run.segment))) }
+            → has (before.clients client) run.segment ≡ true
+            → Shows self.new
+            (with_client before client (lost (before.clients client) run.segment))) }
     {
         let _ = self.takers.pop();
         match self.clients.get_mut(&client) {
@@ -174,7 +176,8 @@ impl ScriptHeaps {
     /// These segments of a client leave.
     pub fn leave_all(&mut self, client: u64, ids: &[u64])
         ensures { (heaps : Heaps) → Shows self.old heaps
-            → Shows self.new (with_client heaps client (without_all (heaps.clients client) ids.now)) }
+            → Shows self.new
+            (with_client heaps client (without_all (heaps.clients client) ids.now)) }
     {
         match self.clients.get_mut(&client) {
             Some(heap) => heap.leave_all(ids),
@@ -184,7 +187,8 @@ impl ScriptHeaps {
 
     /// The numbers of a client's segments, in the order in which they came.
     pub fn segments(&self, client: u64) -> &[u64]
-        ensures { (heaps : Heaps) → Shows self.now heaps → result.now ≡ numbers (heaps.clients client) }
+        ensures { (heaps : Heaps) → Shows self.now heaps
+            → result.now ≡ numbers (heaps.clients client) }
     {
         match self.clients.get(&client) {
             Some(heap) => heap.segments(),
@@ -245,7 +249,8 @@ impl ScriptHeaps {
             → place ≡ length (heaps.clients client).pieces) }
         ensures adopts { OnOk result ((heaps : Heaps) → Shows self.old heaps
             → Shows self.new (with_client heaps client (with_piece
-            (adopted (heaps.clients client) id whole pages) (front_of (whole_of id whole) pages)))) }
+            (adopted (heaps.clients client) id whole pages)
+            (front_of (whole_of id whole) pages)))) }
     {
         match self.clients.get_mut(&client) {
             Some(heap) => heap.adopt(alloc, id, whole, pages),

@@ -1,13 +1,16 @@
 #![tactic(auto)]
 //! `timings`: how long single calls take, each beside a plain one in the same run. With no words it
 //! does nothing. Each word is the name of a measurement, `locks`, `tries`, `looks`, `heaps`, `spaced`,
-//! `squares` or `drops`, whose two times it prints, in picoseconds a turn. The middle three search and free
-//! where the numbers of the segments rise by one, by three and as the squares. In `drops` a turn is a page.
+//! `squares`, `drops` or `returns`, whose two times it prints, in picoseconds a turn. `heaps`, `spaced` and
+//! `squares` search and free where the numbers of the segments rise by one, by three and as the squares.
+//! In `drops` a turn is a page, and in `returns` a note that is given and taken.
 
 mod heap_steps;
+mod queue_steps;
 mod segment_steps;
 
 use crate::heap_steps::{Numbers, drops, heaps};
+use crate::queue_steps::returns;
 use crate::segment_steps::{Times, locks, looks, tries};
 use std::{env, io};
 
@@ -23,6 +26,7 @@ fn main(rt: HostRuntime) -> io::Result<()> {
             "spaced" => heaps(&rt, alloc, Numbers::ByThree)?,
             "squares" => heaps(&rt, alloc, Numbers::Squares)?,
             "drops" => drops(&rt, alloc)?,
+            "returns" => returns(&rt, &rt, alloc)?,
             _ => continue,
         };
         let Times { ours, plain } = times;
