@@ -22,6 +22,7 @@ use Rattle.client.specs.Seen.{Seen, is_gone, known, numbers_of, segment_of, IsUn
 use Rattle.client.specs.Pieces.{Part, Owns, AllStay, IsNew, content_at}
 use Rattle.client.specs.Finding.{Adopts, part_of}
 use Rattle.client.specs.Kept.{IsSound, IsKept, LockedAreUsed}
+use Rattle.client.proofs.Fitting.{fits_front}
 use Rattle.client.proofs.Rows.{not_there, pushed_keeps, pushed_last, counted_nowhere, sum_by-map}
 use Rattle.client.proofs.Pages.{covers, has_within, within_range, apart_segments}
 use Rattle.client.proofs.KeptThrough.{is_id, known_sum}
@@ -211,6 +212,7 @@ adopted old new side locks span whole pages part size unknown some less front gr
         };
         locked = refl;
         sized = ap (λ (r : Run). r.pages) grows.front;
+        fits = fits_front old new lease span (rw in_segment unknown) leases gone (rw (grows.front, size) (omega (arith, less)));
         apart = λ other owns. apart_segments span other.run (λ same. known_segment old other side.id owns unknown (sym same ∙ in_segment));
       }),
       λ other owns.

@@ -171,6 +171,8 @@ pub balanced_on : (g0 g r0 r greatest n : ℕ) (old new : Seen) → IsBalanced g
 balanced_on g0 g r0 r greatest n old new balanced keeps =
     record {
       granted = balanced.granted;
+      exact = balanced.exact;
+      within = balanced.within;
       returned = λ low low'. ap (λ o. r + o) (keeps.owed balanced.told) ∙ balanced.returned low low';
       known = keeps.known greatest balanced.known;
       told = keeps.told balanced.told;
@@ -181,6 +183,8 @@ pub balanced_returned : (g0 g g' r0 r r' greatest greatest' n : ℕ) (old new : 
 balanced_returned g0 g g' r0 r r' greatest greatest' n old new balanced returns same same' =
     rw (same, same') (record {
       granted = balanced.granted;
+      exact = balanced.exact;
+      within = balanced.within;
       returned = λ low low'.
           let was = returns.earlier low' in
           omega (arith, returns.counted balanced.told low', balanced.returned low was);
@@ -193,6 +197,8 @@ pub balanced_told : (g0 g g' r0 r r' greatest greatest' n : ℕ) (old new : Seen
 balanced_told g0 g g' r0 r r' greatest greatest' n old new balanced is tracks same same' =
     rw (is, same, same') (record {
       granted = balanced.granted;
+      exact = balanced.exact;
+      within = balanced.within;
       returned = λ low low'.
           let rose = tracks low' in
           let was : r < LAST_COUNT = omega (arith, rose, low') in
@@ -209,6 +215,8 @@ balanced_grown g0 g g' r0 r r' greatest greatest' n n' old new pages part side b
       granted = λ low.
           let was : g < LAST_COUNT = omega (arith, low, rose) in
           omega (arith, low, rose, more, balanced.granted was);
+      exact = λ start. omega (arith, rose, more, balanced.exact start);
+      within = omega (arith, more);
       returned = λ low low'.
           let was : g < LAST_COUNT = omega (arith, low, rose) in
           let was' : r < LAST_COUNT = omega (arith, low', same) in
@@ -227,6 +235,8 @@ balanced_back g0 g g' r0 r r' greatest greatest' n n' seen balanced rose more ba
       granted = λ low.
           let was : g < LAST_COUNT = omega (arith, low, rose) in
           omega (arith, low, rose, more, balanced.granted was);
+      exact = λ start. omega (arith, rose, more, balanced.exact start);
+      within = omega (arith, more);
       returned = λ low low'.
           let was : g < LAST_COUNT = omega (arith, low, rose) in
           let was' : r < LAST_COUNT = omega (arith, low', back) in
@@ -260,6 +270,8 @@ pub balanced_start : (g r greatest : ℕ) (seen : Seen) → seen.leases ≡ [] �
 balanced_start g r greatest seen leases gone told =
     record {
       granted = λ _. omega arith;
+      exact = λ start. omega (arith, start);
+      within = omega arith;
       returned = λ _ _. omega (arith, ap length leases, ap length gone);
       known = record { leases = rw leases (All-nil (λ (l : Lease). l.side.id ≤ greatest)); gone = rw gone (All-nil (λ (s : Owned). s.id ≤ greatest)) };
       told = told;

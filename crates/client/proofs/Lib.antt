@@ -4,6 +4,7 @@ pub mod KeptThrough
 pub mod PlacesFound
 pub mod PiecesStay
 pub mod LeaseSteps
+pub mod Fitting
 pub mod OneStep
 pub mod PieceCalls
 pub mod Searching
@@ -15,3 +16,4 @@ pub mod Writing
 pub mod GivingBack
 pub mod FreeOnesLeft
 pub mod Allocating
+pub mod Knowing

@@ -5,12 +5,12 @@ use Rattle.std.specs.Option.{IfSome, IfNone, option_map}
 use Rattle.span_heap.specs.Pick.{pick}
 use Rattle.span_heap.specs.Runs.{front_of, carved}
 use Rattle.client.specs.Finding.{CarvesPick}
-use Rattle.std.proofs.lemmas.Bool.{cases_Bool, eq-eqb}
+use Rattle.std.proofs.lemmas.Bool.{cases_Bool, eq-eqb, both_ways}
 use Rattle.std.proofs.lemmas.List.Edits.{length-remove}
 use Rattle.std.proofs.lemmas.List.Sums.{sum_by_push, sum_by-remove}
 use Rattle.std.proofs.lemmas.List.{length-set}
 use Rattle.span_heap.specs.Segment.{Segment}
-use Rattle.std.proofs.lemmas.List.Folds.{Any-from_list_any}
+use Rattle.std.proofs.lemmas.List.Folds.{Any-from_list_any, list_any_at}
 use Rattle.std.proofs.lemmas.Option.{slice_get_within, slice_get_read, none-some, same_Some, slice_get-map, get_or_from_slice_get, slice_get-get_or}
 use Rattle.std.proofs.lemmas.List.Elements.{All-contains}
 use Rattle.segment.specs.Owned.{Owned}
@@ -24,7 +24,7 @@ use Rattle.client.specs.Gone.{has_side, is_side}
 use Rattle.client.specs.Lease.{Lease, IsLease, LocksPages, UnlocksPages, LooksAt, locked_pages}
 use Rattle.client.specs.Seen.{Seen, known, numbers_of, segment_of, IsUnknown}
 use Rattle.client.specs.Places.{IsThere}
-use Rattle.client.specs.Pieces.{Part, IsUsed, IsLive, AllStay, AreApart, LocksSo, UnlocksSo, IsFresh}
+use Rattle.client.specs.Pieces.{Part, IsUsed, IsLive, AllStay, AreApart, FitsIn, LocksSo, UnlocksSo, IsFresh}
 use Rattle.client.specs.Calls.{Turns, Loses, LocksRun, UnlocksRun, LooksInto, TakesOut}
 use Rattle.client.specs.Kept.{IsSound, IsKept, LockedAreUsed}
 use Rattle.client.specs.declared.answers.Unlocked.{Unlocked}
@@ -299,18 +299,32 @@ kept_used seen heap span pages room kept uses partition =
       full = kept.full;
     }
 
+-- a used span lies within its segment, which is the only one of its number
+pub fits_used : (seen : Seen) (run : Run) (locked : Bool) → IsSound seen → IsUsed seen run locked → FitsIn seen run
+fits_used seen run locked sound used =
+    record {
+      leases = λ k d within number.
+          let range = range_here seen run locked k (get_or seen.leases k d) sound used (slice_get-get_or seen.leases k d within) number in
+          omega (arith, range.inside, (sound.leases k d within).sized);
+      gone = λ k d within number.
+          let absent = not_gone seen used.stands.place used.stands.lease sound used.stands.stands in
+          absurd (both_ways (has_side seen.gone run.segment) (rw (← used.stands.number) absent) (list_any_at (is_side run.segment) seen.gone k d within (eq-eqb (get_or seen.gone k d).id run.segment number)));
+    }
+
 -- a search found a span: its pages are free, and no piece has one of them
 pub fresh_span : (seen : Seen) (heap : Contents) (span : Run) → IsSound seen → Uses seen.heap heap span → IsPartition heap → IsFresh span seen (record seen { heap = heap })
 fresh_span seen heap span sound uses partition =
     let lies = lies_from heap.segments seen.leases span (uses.segments ∙ sound.segments) (All-contains (LiesWithin heap.segments) heap.used span partition.used_within uses.has) in
     let kept = All-at (LockedAreUsed seen.heap.used) seen.leases lies.place lies.lease sound.locked lies.stands in
     let is = All-at IsLease seen.leases lies.place lies.lease sound.leases lies.stands in
+    let used : IsUsed (record seen { heap = heap }) span false = record {
+      used = uses.has;
+      stands = record { place = lies.place; lease = lies.lease; stands = lies.stands; number = lies.number };
+      pages = came_free seen.heap.used heap.used span seen.leases lies uses.used (used_once heap partition) is.sized kept;
+    } in
     record {
-      used = record {
-        used = uses.has;
-        stands = record { place = lies.place; lease = lies.lease; stands = lies.stands; number = lies.number };
-        pages = came_free seen.heap.used heap.used span seen.leases lies uses.used (used_once heap partition) is.sized kept;
-      };
+      used = used;
+      fits = fits_used (record seen { heap = heap }) span false (sound_used seen heap span sound uses partition) used;
       apart = λ other owns. elim owns.there [
         | inl live ↦ apart_from_old seen.heap.used heap.used span other.run uses.used (used_once heap partition) live.used
         | inr dead ↦ apart_segments span other.run (λ e. two (has_side seen.gone other.run.segment) dead.gone (rw (sym e, ← lies.number) (not_gone seen lies.place lies.lease sound lies.stands)))

@@ -21,7 +21,8 @@ use Rattle.client.specs.declared.answers.Unlocked.{Unlocked}
 use Rattle.client.proofs.PlacesFound.{has_at}
 use Rattle.client.proofs.OneStep.{not_gone, range_here}
 use Rattle.client.proofs.Pages.{locked_some, has_within, within_range}
-use Rattle.client.proofs.LeaseSteps.{in_use}
+use Rattle.client.proofs.LeaseSteps.{in_use, locked_so}
+use Rattle.client.proofs.Fitting.{fits_turned}
 use Rattle.client.proofs.KeptThrough.{others_differ}
 use Rattle.client.proofs.PiecesStay.{stays_as_it_is, stays_on, content_here}
 use Rattle.client.proofs.Rows.{cases_same}
@@ -116,6 +117,7 @@ new_piece start old between new pages part stay fresh locks so mine locked sized
       owned = record { mine = mine ∙ sym locks.after.name.number; there = inl (rw locked (so.held refl).0) };
       locked = locked;
       sized = sized;
+      fits = fits_turned between new locks.place locks.lease locks.turned part.run locks.stood (locked_so part.run.first part.run.pages locks.lease locks.turned fresh.used.pages.some locks.locks).keeps locks.after fresh.fits;
       apart = λ other owns. fresh.apart other (stay other owns).owned;
     }
 
@@ -222,4 +224,4 @@ never none = (λ e. absurd (two true refl (sym e)), λ p. absurd (none p))
 -- a new piece is new for what came before, too
 pub new_since : (start old new : Seen) (pages : ℕ) (part : Part) → AllStay start old → IsNew pages old new part → IsNew pages start new part
 new_since start old new pages part stay is =
-    record { owned = is.owned; locked = is.locked; sized = is.sized; apart = λ other owns. is.apart other (stay other owns).owned }
+    record { owned = is.owned; locked = is.locked; sized = is.sized; fits = is.fits; apart = λ other owns. is.apart other (stay other owns).owned }

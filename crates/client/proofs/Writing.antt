@@ -15,12 +15,12 @@ use Rattle.span_heap.specs.Run.{has_page}
 use Rattle.client.specs.Gone.{has_side}
 use Rattle.client.specs.Lease.{Lease, IsLease, content_of, pages_at, with_bytes}
 use Rattle.client.specs.Seen.{Seen, is_lease}
-use Rattle.client.specs.Pieces.{Part, Owns, IsLive, Stays, AreApart, content_at, bytes_of, IsUsed, written_run, WritesOnly}
+use Rattle.client.specs.Pieces.{Part, Owns, AreApart, content_at, bytes_of, IsUsed, written_run, WritesOnly}
 use Rattle.client.specs.Calls.{Turns}
 use Rattle.client.specs.Kept.{IsSound, IsKept, LockedAreUsed}
 use Rattle.client.proofs.Rows.{cases_same, All-at}
 use Rattle.client.proofs.Pages.{has_within, within_range, apart_or_same, used_once, locked_some}
-use Rattle.client.proofs.KeptThrough.{Follows, others_differ}
+use Rattle.client.proofs.KeptThrough.{others_differ}
 use Rattle.client.proofs.LeaseSteps.{in_use}
 use Rattle.client.proofs.Debts.{KeepsDebt}
 use Rattle.client.proofs.OneStep.{range_here, kept_turned}

@@ -1,5 +1,5 @@
 -- What is seen of a client over what grants its segments, and what its calls do.
-use Rattle.std.specs.Prelude.{◌≡◌, ◌≢◌, ◌⊎◌, ℕ, ◌+◌, ◌-◌, ◌^◌, ◌<◌, ◌≤◌, max, ⊤, List, length, All, Some, None, Bool, MatchBool}
+use Rattle.std.specs.Prelude.{◌≡◌, ◌≢◌, ◌⊎◌, ℕ, ◌+◌, ◌-◌, ◌^◌, ◌<◌, ◌≤◌, min, max, ⊤, List, length, All, Some, None, Bool, MatchBool}
 use Rattle.units.specs.Count.{next_count}
 use Rattle.segment.specs.Owned.{Owned, IsGranted}
 use Rattle.std.specs.Prelude.{Result, Err}
@@ -9,7 +9,7 @@ use Rattle.client.specs.declared.granted.ClientFault.TheVariants as fault
 use Rattle.client.specs.Sizes.{wanted, pages_for}
 use Rattle.client.specs.Gone.{kept_side, Includes}
 use Rattle.client.specs.Lease.{Lease}
-use Rattle.client.specs.Seen.{Seen}
+use Rattle.client.specs.Seen.{Seen, IsUnknown}
 use Rattle.client.specs.Pieces.{Part}
 use Rattle.client.specs.Finding.{Finds, Adopts, SweepsAll}
 
@@ -25,6 +25,10 @@ pub record Session (G : Type 0) : Type 0 where
 abbrev pub LAST_COUNT : ℕ
 LAST_COUNT = 2 ^ 64 - 1
 
+-- a count that was none above its last value rose so many times: it is their sum, or it stands at the last value
+abbrev pub RoseBy : ℕ → ℕ → ℕ → Type 0
+RoseBy then now n = then ≤ LAST_COUNT → now ≡ min LAST_COUNT (then + n)
+
 -- how many segments were granted and not given back: those of the client, and those that were found gone and not told
 abbrev pub owed : Seen → ℕ
 owed seen = length seen.leases + (length seen.gone - seen.told)
@@ -35,9 +39,11 @@ pub record IsBelow (bound : ℕ) (seen : Seen) : Type 0 where
   pub gone : All (λ (side : Owned). side.id ≤ bound) seen.gone
 
 -- Since the start so many segments were granted, and all but those owed were given back, where no count stands at its last value. The
--- client knows no number above the greatest that was granted.
+-- granter's count rose as often. The client knows no number above the greatest that was granted.
 pub record IsBalanced (grants_then grants_now returns_then returns_now greatest n : ℕ) (seen : Seen) : Type 0 where
   pub granted : grants_now < LAST_COUNT → grants_now ≡ grants_then + n
+  pub exact : RoseBy grants_then grants_now n
+  pub within : n ≤ LAST_COUNT
   pub returned : grants_now < LAST_COUNT → returns_now < LAST_COUNT → returns_now + owed seen ≡ returns_then + n
   pub known : IsBelow greatest seen
   pub told : seen.told ≤ length seen.gone
@@ -61,9 +67,10 @@ pub record Releases (lost : List Owned) (old new : Seen) : Type 0 where
 abbrev pub granted_pages : Seen → ℕ → ℕ
 granted_pages seen pages = max pages seen.standard
 
--- a new segment came, and its front is the piece
+-- a new segment came, whose number was not known, and its front is the piece
 pub record GrowsBy (pages : ℕ) (part : Part) (old new : Seen) : Type 0 where
   pub side : Owned
+  pub unknown : IsUnknown side.id old
   pub granted : IsGranted (granted_pages old pages) side
   pub adopts : Adopts side pages part old new
 

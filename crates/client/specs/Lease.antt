@@ -1,5 +1,5 @@
 -- A segment that a client has: its owner's side with the locks of its pages, and what a lock, an unlock and a look do to both.
-use Rattle.std.specs.Prelude.{◌≡◌, ◌≢◌, ℕ, ◌+◌, ◌*◌, ◌<◌, nat_lt, Bool, List, take, drop, MatchBool, if◌then◌else◌}
+use Rattle.std.specs.Prelude.{◌≡◌, ◌≢◌, ℕ, ◌*◌, ◌<◌, nat_lt, Bool, List, take, drop, MatchBool, if◌then◌else◌}
 use Rattle.units.specs.declared.TheConstants.{PAGE}
 use Rattle.page_locks.specs.Locks.{page_count, locked_count, LocksRange, UnlocksRange}
 use Rattle.segment.specs.Owned.{Owned, AfterLock, AfterLook, after_unlock}

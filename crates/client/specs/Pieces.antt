@@ -1,5 +1,6 @@
 -- The pieces of a client.
-use Rattle.std.specs.Prelude.{◌≡◌, ◌≢◌, ◌⊎◌, ℕ, Bool, true, false, ◌&&◌, List, [], ◌∷◌, map, length, Contains, ◌*◌, if◌then◌else◌}
+use Rattle.std.specs.Prelude.{◌≡◌, ◌≢◌, ◌⊎◌, ℕ, ◌+◌, ◌≤◌, Bool, true, false, ◌&&◌, List, [], ◌∷◌, map, length, All, Contains, ◌*◌, if◌then◌else◌}
+use Rattle.segment.specs.Owned.{Owned}
 use Rattle.page_locks.specs.Locks.{IsRange}
 use Rattle.segment.specs.declared.owner.Lock.{Lock}
 use Rattle.segment.specs.declared.owner.Lock.TheVariants.{Held, Gone}
@@ -67,20 +68,28 @@ AllStay old new = (part : Part) → Owns old part → Stays old new part
 abbrev pub OthersStay : Run → Seen → Seen → Type 0
 OthersStay run old new = (part : Part) → Owns old part → part.run ≢ run → Stays old new part
 
--- a new piece: it is the client's, live and locked, has this many pages, and shares none with a piece that was owned before
+-- the run lies within the segment of its number, one of the client's or one that is known to be gone
+pub record FitsIn (seen : Seen) (run : Run) : Type 0 where
+  pub leases : All (λ (lease : Lease). lease.side.id ≡ run.segment → run.first + run.pages ≤ lease.side.pages) seen.leases
+  pub gone : All (λ (side : Owned). side.id ≡ run.segment → run.first + run.pages ≤ side.pages) seen.gone
+
+-- a new piece: it is the client's, live and locked, has this many pages, which lie within its segment, and shares none with a piece that was
+-- owned before
 pub record IsNew (pages : ℕ) (old new : Seen) (part : Part) : Type 0 where
   pub owned : Owns new part
   pub locked : part.locked ≡ true
   pub sized : part.run.pages ≡ pages
+  pub fits : FitsIn new part.run
   pub apart : (other : Part) → Owns old other → AreApart part.run other.run
 
 -- each piece of another segment stays
 abbrev pub StayElsewhere : ℕ → Seen → Seen → Type 0
 StayElsewhere id old new = (part : Part) → Owns old part → part.run.segment ≢ id → Stays old new part
 
--- a used span whose pages are free, and which shares no page with a piece that was owned before
+-- a used span whose pages are free, and lie within its segment, and which shares no page with a piece that was owned before
 pub record IsFresh (run : Run) (old new : Seen) : Type 0 where
   pub used : IsUsed new run false
+  pub fits : FitsIn new run
   pub apart : (other : Part) → Owns old other → AreApart run other.run
 
 -- the piece after a lock with this answer

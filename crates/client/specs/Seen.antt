@@ -48,6 +48,10 @@ numbers_of leases = map (λ (lease : Lease). lease.side.id) leases
 abbrev pub known : List Lease → List Owned → List ℕ
 known leases gone = numbers_of leases ++ map (λ (side : Owned). side.id) gone
 
+-- a segment of this number is with the client, or is known to be gone
+abbrev pub is_known : Seen → ℕ → Bool
+is_known seen id = list_any (λ n. n == id) (known seen.leases seen.gone)
+
 -- no segment of this number is with the client, and none is known to be gone
 abbrev pub IsUnknown : ℕ → Seen → Type 0
 IsUnknown id seen = list_any (λ n. n == id) (known seen.leases seen.gone) ≡ false

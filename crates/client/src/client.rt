@@ -7,7 +7,7 @@ ghost use Rattle.segment.specs.Owned.{Owned};
 ghost use Rattle.segment.specs.declared.owner.Phase.TheVariants as phase;
 ghost use Rattle.segment.specs.declared.owner.Lock.TheVariants as lock;
 ghost use Rattle.span_heap.specs.Heap.{size_of};
-ghost use Rattle.client.specs.Seen.{Seen, new_client, next_untold, IsUnknown};
+ghost use Rattle.client.specs.Seen.{Seen, new_client, next_untold, IsUnknown, is_known};
 ghost use Rattle.client.specs.Gone.{AreGone, kept_side, after_next};
 ghost use Rattle.client.specs.Pieces.{Part, Owns, AllStay, OthersStay, IsNew, AreApart, bytes_of, IsLive, IsDead, LocksPiece, UnlocksPiece, IsUsed, StayElsewhere, part_after_lock, WritesOnly};
 ghost use Rattle.client.specs.Calls.{LocksPart, Unlocks, UnlocksRun, AfterFree, TakesFirstFree, TakesLast};
@@ -152,6 +152,17 @@ impl Client {
             return false;
         }
         self.gone.has(piece.segment())
+    }
+
+    /// Whether a segment of this number is the client's, or is known to be gone: a condition of `adopt` is
+    /// that none is.
+    pub fn knows(&self, id: u64) -> bool
+        ensures { result ≡ is_known self.now id }
+    {
+        match place_of(self.leases.as_slice(), id) {
+            Some(_) => true,
+            None => self.gone.has(id),
+        }
     }
 
     /// Looks for free pages, from 1 to 65,536 of them, and answers them as a locked piece. The run that

@@ -11,7 +11,7 @@ ghost use Rattle.units.specs.Count.{next_count};
 ghost use Rattle.client.specs.Calls.{LocksPart, UnlocksRun, AfterFree};
 ghost use Rattle.client.specs.Gone.{AreGone, Includes};
 ghost use Rattle.client.specs.declared.granted.ClientFault.TheVariants as fault;
-ghost use Rattle.client.specs.Granting.{Allocates, granted_pages, GrowsBy, Releases, IsSettled, IsTooLarge, CameWhole, IsBalanced, AllocatesCounted, IsOutOfMemory};
+ghost use Rattle.client.specs.Granting.{Allocates, granted_pages, GrowsBy, Releases, IsSettled, RoseBy, LAST_COUNT, IsTooLarge, CameWhole, IsBalanced, AllocatesCounted, IsOutOfMemory};
 
 use crate::answers::{Unadopted, Unlocked};
 use crate::client::Client;
@@ -292,11 +292,14 @@ impl<G: Granter + Drop> Granted<G> {
 
     /// Ends the client as `close` does, and hands the granter back. Since `new` as many grants were made as
     /// the end tells, and as many returns, where no count of the granter stands at its last value. Its
-    /// standing is the one that it had.
+    /// count of grants is what it was and those that the end tells, or the last value where that is less.
+    /// Its standing is the one that it had.
     pub fn close_with<H: Threads + Wait + Sync>(self, rt: &H) -> (ClientEnd, G)
         ensures end { result.0.grants ≡ self.grants }
         ensures settled { IsSettled (G.grants self.start) (G.grants result.1) (G.returns self.start)
             (G.returns result.1) result.0.grants }
+        ensures exact { RoseBy (G.grants self.start) (G.grants result.1) result.0.grants }
+        ensures within { result.0.grants ≤ LAST_COUNT }
         ensures standing { G.standing result.1 ≡ G.standing self.start }
         ensures gone { AreGone result.0.gone }
         ensures kept { Includes self.client.gone result.0.gone }

@@ -9,7 +9,7 @@ use Rattle.std.proofs.Common.{◌+◌, ◌<◌, ◌^◌}
 use Rattle.units.specs.declared.TheConstants.{MOST_PAGES}
 use Rattle.span_heap.specs.Heap.{size_of}
 use Rattle.client.proofs.PieceCalls.{new_since}
-use Rattle.client.proofs.Allocating.{size_found, allocated, gone_released, includes_on, on_error, out_of_memory}
+use Rattle.client.proofs.Allocating.{size_found, allocated, includes_on, on_error, out_of_memory}
 use Rattle.client.proofs.granted.Granted.allocate.Goals as goal
 
 pub invariant_of-self : goal.invariant_of-self

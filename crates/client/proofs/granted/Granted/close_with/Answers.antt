@@ -12,6 +12,14 @@ returns-clause-settled g c =
     let gone = ap (λ (s : Seen). length s.gone) c.tell_all.ensures.client in
     rw (← c.self.view_is) (settled _ _ _ _ _ _ c.tell_all.new.client told none (omega (arith, all, gone)))
 
+pub returns-clause-exact : goal.returns-clause-exact
+returns-clause-exact g c =
+    let same = c.tell_all.ensures.grants ∙ c.give_back_all.ensures.grants in
+    rw (← c.self.view_is, same) c.self.invariant.0.exact
+
+pub returns-clause-within : goal.returns-clause-within
+returns-clause-within g c = c.self.invariant.0.within
+
 pub returns-clause-standing : goal.returns-clause-standing
 returns-clause-standing g c =
     rw (← c.self.view_is) (c.tell_all.ensures.standing ∙ (c.give_back_all.ensures.standing ∙ c.self.invariant.1))
