@@ -1,23 +1,21 @@
 -- What the steps of a get do to a cache, from what they do to its client and its entries.
-use Rattle.std.proofs.Common.{◌≡◌, ◌≢◌, ℕ, zero, suc, ◌+◌, ◌-◌, ◌<◌, ◌≤◌, min, Bool, true, false, not, ◌||◌, cond, max, ◌⊎◌, List, [], ◌∷◌, ◌++◌, length, take, drop, map, get_or, Option, Some, None, refl, sym, ap, subst, ◌∙◌, inl, inr, arith}
-use Rattle.std.specs.List.{All, list_any, slice_get, count_by}
-use Rattle.std.specs.Map.{keys_of, lookup, lookup_entry, remove_entry, set_value}
-use Rattle.std.proofs.lemmas.Bool.{both_ways, false_from_ne_true}
+use Rattle.std.proofs.Common.{◌≡◌, ◌≢◌, ℕ, suc, ◌+◌, ◌-◌, ◌<◌, ◌≤◌, Bool, true, false, ◌||◌, cond, max, ◌⊎◌, List, [], ◌∷◌, ◌++◌, length, take, drop, map, get_or, Some, None, refl, sym, ap, subst, ◌∙◌, inl, inr, arith}
+use Rattle.std.specs.List.{All, slice_get}
+use Rattle.std.specs.Map.{keys_of, lookup_entry, remove_entry, set_value}
+use Rattle.std.proofs.lemmas.Bool.{both_ways}
 use Rattle.std.proofs.lemmas.List.{take_all, map-append, append_cancel_left, length-append}
-use Rattle.std.proofs.lemmas.List.Elements.{All-head, All-tail, All-cons, All-nil, All-take, All-drop}
+use Rattle.std.proofs.lemmas.List.Elements.{All-head, All-tail, All-cons, All-nil, All-drop}
 use Rattle.std.proofs.lemmas.List.Sums.{sum_by-cons, sum_by_push}
 use Rattle.tile_source.specs.declared.tile.Tile.{Tile}
 use Rattle.segment.specs.declared.owner.Lock.{Lock}
 use Rattle.segment.specs.declared.owner.Lock.TheVariants.{Held, Gone}
 use Rattle.span_heap.specs.declared.run.Run.{Run}
 use Rattle.span_heap.specs.Run.{has_page}
-use Rattle.client.specs.Gone.{has_side}
 use Rattle.client.specs.Seen.{Seen, is_gone}
-use Rattle.client.specs.Pieces.{Part, Owns, Stays, AllStay, OthersStay, UnlocksPiece, LocksPiece, IsNew, AreApart, WritesPiece, part_after_lock, bytes_of}
+use Rattle.client.specs.Pieces.{Part, Owns, OthersStay, UnlocksPiece, LocksPiece, AreApart, WritesPiece, part_after_lock, bytes_of}
 use Rattle.client.specs.Sizes.{pages_for, wanted}
 use Rattle.client.specs.Granting.{Session, Allocates, AllocatesCounted, granted_pages}
 use Rattle.units.specs.declared.TheConstants.{MOST_PAGES}
-use Rattle.span_heap.specs.Heap.{size_of}
 use Rattle.std.proofs.lemmas.Option.{same_Some}
 use Rattle.std.specs.Prelude.{nat_lt}
 use Rattle.client.specs.Calls.{KeepsName, UnlocksRun, LocksPart, AfterFree}
@@ -25,27 +23,32 @@ use Rattle.client.specs.declared.answers.Unlocked.{Unlocked}
 use Rattle.tile_cache.specs.Recent.{is_same, has_tile, without}
 use Rattle.tile_cache.specs.Cached.{Cached, AreOwned, AreFree, HaveTiles, HasBytes, IsUsedWith, ShareNoPage, runs_of, tiles_of}
 use Rattle.tile_cache.specs.Kept.{IsKept}
-use Rattle.tile_cache.specs.Asked.{StandsFor}
+use Rattle.tile_cache.specs.Bound.{IsFresh}
+use Rattle.tile_cache.specs.Accounts.{SameSegments, IsAccounted, Fits, makes_of, over_segments}
+use Rattle.units.specs.Count.{next_count}
 use Rattle.tile_cache.specs.declared.counts.Shown.{Shown}
 use Rattle.tile_cache.specs.declared.counts.Shown.TheVariants.{Kept, First, Rebuilt, Again}
-use Rattle.tile_cache.specs.Shown.{counted}
+use Rattle.tile_cache.specs.Shown.{counted, no_counts}
+use Rattle.tile_cache.specs.declared.counts.Counts.{Counts}
 use Rattle.tile_cache.specs.Coming.{EntriesStay, GoneStay, Clears, Comes, ComesNone}
-use Rattle.tile_cache.specs.Getting.{Rests, LocksEntry, MakesRoom, Adds, AddsNone, KeepsBytes, Lent, Writes, left, others_of}
+use Rattle.tile_cache.specs.Getting.{Rests, LocksEntry, MakesRoom, Adds, AddsNone, KeepsBytes, Lent, Writes, IsLost, others_of}
 use Rattle.tile_cache.proofs.TilesAskedLast.{StandsOnce, same_itself, absent_without}
 use Rattle.tile_cache.proofs.EntriesStay.{AreOthers, owned_stay, tiles_stay, others_stay, all_stay, first_differs, owned_rest, owned_again, others_differ, once_more}
-use Rattle.tile_cache.proofs.EntriesReordered.{Entry, owned_found, found_key, found_value, keys_found, runs_found, all_found, keys_without, key_there, length_without, absent_value}
-use Rattle.tile_cache.proofs.ClientSteps.{Goes, Unmoved, same_name, name_on, name_allocated, unmoved_unlocked, unmoved_freed, heap_unlocked, goes_locked, locked_gone}
+use Rattle.tile_cache.proofs.EntriesReordered.{Entry, sum_runs, sum_found, runs_all, owned_found, found_key, found_value, keys_found, runs_found, all_found, keys_without, length_without, absent_value}
+use Rattle.tile_cache.proofs.ClientSteps.{same_name, name_on, name_allocated, unmoved_unlocked, unmoved_freed, heap_unlocked, goes_locked, locked_gone}
 use Rattle.tile_cache.proofs.OneMoreRequest.{stands_same}
+use Rattle.tile_cache.proofs.Segments.{segments_same, same_unlocked, same_locked, same_freed, same_found, same_before, one_came}
+use Rattle.tile_cache.proofs.Accounting.{AreAmong, AreKnown, IsBeside, present, known_owned, accounted_moved, accounted_lost, accounted_counts, accounted_found, accounted_grown, few_counted, enough_found, enough_grown}
 
 module _ {G : Type 0} where
   -- the cache with another client and other entries
   abbrev pub with_entries : Cached G → Seen → List Entry → Cached G
   with_entries old client entries = record old { session = record old.session { client = client }; entries = entries }
 
-  pub kept_with : (old : Cached G) (room : ℕ) (client : Seen) (entries : List Entry) → IsKept old room → AreOwned client entries
+  pub kept_with : (old : Cached G) (room : ℕ) (client : Seen) (entries : List Entry) → IsKept old room → SameSegments old.session.client client → AreAmong (runs_of entries) (runs_of old.entries) → AreOwned client entries
       → All (λ (run : Run). run.pages ≡ pages_for old.tile_bytes) (runs_of entries) → All (λ (tile : Tile). has_tile old.shown tile ≡ true) (keys_of entries)
       → (old.entries ≡ [] → entries ≡ []) → IsKept (with_entries old client entries) room
-  kept_with old room client entries kept owned sized shown none = record {
+  kept_with old room client entries kept same among owned sized shown none = record {
     entries = owned;
     sized = sized;
     shown = shown;
@@ -53,6 +56,9 @@ module _ {G : Type 0} where
     sized_room = kept.sized_room;
     some = kept.some;
     granter = kept.granter;
+    few = kept.few;
+    accounts = λ fresh all size is.
+        accounted_moved (pages_for size) old.start.client.standard old.session.grants old.counts.rebuilt (makes_of old.counts) old.session.client client (runs_of entries) (runs_of old.entries) same among (kept.accounts fresh all size is);
   }
 
   -- nothing was locked
@@ -126,6 +132,8 @@ module _ {G : Type 0} (old : Cached G) (room : ℕ) (tile : Tile) (piece : Part)
           asked = λ asked stands. stands_same asked old (with_entries old client ((tile, record piece { locked = false }) ∷ others)) (sym (ap keys_of is)) refl refl refl stands;
         },
         kept_with old room client ((tile, record piece { locked = false }) ∷ others) kept
+            (same_unlocked piece.run now told old.session.client client run)
+            (λ f. rw is (omega arith))
             (owned_again old.session.client client tile piece (record piece { locked = false }) others owned refl unlocks.owned stay)
             (rw is at kept.sized)
             (rw is at kept.shown)
@@ -190,6 +198,8 @@ module _ {G : Type 0} (old : Cached G) (room : ℕ) (tile : Tile) (e : Entry) (c
           };
         },
         kept_with old room client ((e.0, part_after_lock told e.1) ∷ others_found) kept
+            (same_locked e.1 told old.session.client client locks)
+            (λ f. omega (arith, sum_runs f old.entries, sum_runs f others_found, sum_found (λ (e : Entry). f e.1.run) (is_same tile) old.entries e found, sum_by-cons f (part_after_lock told e.1).run (runs_of others_found), ap f (run_after_lock told e.1)))
             (owned_again old.session.client client e.0 e.1 (part_after_lock told e.1) others_found owned (run_after_lock told e.1) leaves.owned stay)
             (subst (λ r. All (λ (run : Run). run.pages ≡ pages_for old.tile_bytes) (r ∷ runs_of others_found)) (sym (run_after_lock told e.1)) (runs_found (λ (run : Run). run.pages ≡ pages_for old.tile_bytes) (is_same tile) old.entries e found kept.sized))
             (keys_found (λ (t : Tile). has_tile old.shown t ≡ true) (is_same tile) old.entries e found kept.shown)
@@ -263,7 +273,10 @@ module _ {G : Type 0} (old : Cached G) (room : ℕ) (gone : Entry) (others : Lis
             tiles = tiles_stay tile_of old.session.client client old.tile_bytes others freed.1 (front_all (λ (e : Entry). HasBytes old.session.client old.tile_bytes (tile_of e.0) e.1) others gone (rw is at used.tiles));
           };
         },
-        kept_with old room client others kept freed.0
+        kept_with old room client others kept
+            (same_freed told gone.1 now old.session.client client frees)
+            (λ f. rw runs_is (omega (arith, sum_by_push f (runs_of others) gone.1.run)))
+            freed.0
             (front_all (λ (run : Run). run.pages ≡ pages_for old.tile_bytes) (runs_of others) gone.1.run (rw runs_is at kept.sized))
             (front_all (λ (t : Tile). has_tile old.shown t ≡ true) (keys_of others) gone.0 (rw keys_is at kept.shown))
             (λ none. absurd (not_none others (sym is ∙ none))),
@@ -301,6 +314,7 @@ cleared now told tile piece others old new owned free frees stays same =
       gone = unmoved.gone;
       name = unmoved.goes.name;
       fits = unmoved.goes.pages;
+      segments = same_freed told piece now old.client new.client frees;
       same = same;
     }
 
@@ -318,6 +332,7 @@ cleared_none told session entries differ owned =
       gone = refl;
       name = same_name session.client;
       fits = omega arith;
+      segments = segments_same session.client session.client refl;
       same = refl;
     }
   where
@@ -369,6 +384,13 @@ module _ {G : Type 0} (old : Cached G) (room size : ℕ) (told : Shown) (between
       elim sized [
         | inl new ↦ rw (none_others (kept.unused new)) (All-nil (λ (run : Run). run.pages ≡ pages_for size))
         | inr same ↦ all_others (λ (e : Entry). e.1.run) (λ (run : Run). run.pages ≡ pages_for size) (rw same at kept.sized)
+      ]
+
+  sized_all : All (λ (run : Run). run.pages ≡ pages_for size) (runs_of old.entries)
+  sized_all =
+      elim sized [
+        | inl new ↦ rw (kept.unused new) (All-nil (λ (run : Run). run.pages ≡ pages_for size))
+        | inr same ↦ rw same at kept.sized
       ]
 
   tiles_others : (tile_of : Tile → List ℕ) → HaveTiles tile_of old.session.client size old.entries → HaveTiles tile_of between.client size others
@@ -429,18 +451,67 @@ module _ {G : Type 0} (old : Cached G) (room size : ℕ) (told : Shown) (between
             sized_room = kept.sized_room;
             some = kept.some;
             granter = start ∙ kept.granter;
+            few = kept.few;
+            accounts = λ fresh all. absurd (not_failed all);
           },
         )
       where
+        not_failed : true ≡ false → ⊥
+        not_failed e = cc
+
         all_shown : (ts : List Tile) → All (λ (t : Tile). has_tile old.shown t ≡ true) ts → All (λ (t : Tile). has_tile shown t ≡ true) ts
         all_shown ts all = λ k d within. none.shown (get_or ts k d) ∙ all k d within
+
+    -- the accounts before the entry comes: where a tile is rebuilt, its piece was lost
+    accounts_cleared : (tile : Tile) → (told ≡ Rebuilt → IsLost tile old) → IsFresh old.start → old.failed ≡ false
+        → IsAccounted (pages_for size) old.start.client.standard old.session.client old.session.grants (counted told old.counts).rebuilt (makes_of old.counts) (runs_of others)
+    accounts_cleared tile lost fresh all = go told lost
+      where
+        was : IsAccounted (pages_for size) old.start.client.standard old.session.client old.session.grants old.counts.rebuilt (makes_of old.counts) (runs_of old.entries)
+        was = kept.accounts fresh all size sized
+
+        go : (told : Shown) → (told ≡ Rebuilt → IsLost tile old) → IsAccounted (pages_for size) old.start.client.standard old.session.client old.session.grants (counted told old.counts).rebuilt (makes_of old.counts) (runs_of (others_of told old.entries))
+        go Kept lost = was
+        go First lost = was
+        go Again lost = was
+        go Rebuilt lost =
+            let (piece, rest, is, gone) = lost refl in
+            let long = All-head (λ (run : Run). run.pages ≡ pages_for size) piece.run (runs_of rest) (rw is at sized_all) in
+            rw is (accounted_counts (pages_for size) old.start.client.standard old.session.grants (old.counts.rebuilt + 1) (makes_of old.counts) (counted Rebuilt old.counts).rebuilt (makes_of old.counts) old.session.client (runs_of rest) (omega arith) was.granted
+            (accounted_lost (pages_for size) old.start.client.standard old.session.grants old.counts.rebuilt (makes_of old.counts) old.session.client piece.run (runs_of rest) gone long (rw is at was)))
+
+    -- the accounts after it came
+    accounts_one : (tile : Tile) → told ≢ Kept → (told ≡ Rebuilt → IsLost tile old) → (comes : Comes tile size between session entries entries_now old.shown shown) → entries_now ≡ (tile, comes.piece) ∷ others → IsFresh old.start → old.failed ≡ false
+        → IsAccounted (pages_for size) old.start.client.standard session.client session.grants (counted told old.counts).rebuilt (makes_of (counted told old.counts)) (runs_of entries_now)
+    accounts_one tile made lost comes is fresh all =
+        let cleared = accounts_cleared tile lost fresh all in
+        let moved = accounted_moved (pages_for size) old.start.client.standard old.session.grants (counted told old.counts).rebuilt (makes_of old.counts) old.session.client between.client (runs_of others) (runs_of others) clears.segments (λ f. omega arith) cleared in
+        let grants : between.grants ≡ old.session.grants = ap (λ (s : Session G). s.grants) clears.same in
+        let pages = (wanted_is size comes.pages comes.wants).0 in
+        let beside : IsBeside between.client comes.piece.run (runs_of others) = record {
+          gone = λ other gone. comes.fresh.apart (record { client = between.client.number; run = other; locked = false }) (record { mine = refl; there = inr (record { gone = gone; free = refl }) });
+          apart = runs_all (AreApart comes.piece.run) others (λ k d within. comes.fresh.apart _ (clears.owned.owned k d within));
+        } in
+        let known : AreKnown between.client (runs_of others) = runs_all (λ (run : Run). 1 ≤ over_segments (present run.segment) between.client) others (λ k d within. known_owned between.client (get_or others k d).1 (clears.owned.owned k d within)) in
+        rw is (elim comes.counted [
+          | inl found ↦
+              accounted_counts (pages_for size) old.start.client.standard session.grants (counted told old.counts).rebuilt (makes_of old.counts) (counted told old.counts).rebuilt (makes_of (counted told old.counts)) session.client (comes.piece.run ∷ runs_of others) (omega arith)
+              (enough_found told old.counts session.grants kept.few (rw (found.2, grants) cleared.granted))
+              (rw (found.2, grants) (accounted_found (pages_for size) old.start.client.standard old.session.grants (counted told old.counts).rebuilt (makes_of old.counts) between.client session.client comes.piece.run (runs_of others) (same_found comes.pages found.0 (Some comes.piece) between.client session.client found.1) comes.fresh.fits beside moved))
+          | inr grown ↦
+              let before = same_before comes.pages comes.piece between.client session.client grown.0 in
+              let rose : session.grants ≡ next_count old.session.grants = grown.1 ∙ ap next_count grants in
+              accounted_grown (pages_for size) old.start.client.standard old.session.grants (counted told old.counts).rebuilt (makes_of old.counts) session.grants (makes_of (counted told old.counts)) grown.0.grown.side.id between.client grown.0.released session.client comes.piece.run (runs_of others) before
+              (rw (← pages) (one_came comes.pages comes.piece grown.0.released session.client grown.0.grown)) grown.0.grown.unknown (λ k d within. rw (before.sums (present (get_or (runs_of others) k d).segment)) (known k d within))
+              comes.fresh.fits beside rose (rw rose (enough_grown told old.counts old.session.grants made kept.few cleared.granted)) moved
+        ])
 
     abbrev pub cache_one : Cached G
     cache_one = record old { session = session; entries = entries_now; shown = shown; counts = counted told old.counts; tile_bytes = size }
 
-    pub came_one : (tile : Tile) → 1 ≤ size → AreFree old.entries → Comes tile size between session entries entries_now old.shown shown
+    pub came_one : (tile : Tile) → 1 ≤ size → AreFree old.entries → (told ≢ Kept) → (told ≡ Rebuilt → IsLost tile old) → Comes tile size between session entries entries_now old.shown shown
         → (Adds told tile size old cache_one × KeepsBytes size old cache_one) × IsKept cache_one room
-    came_one tile some free comes =
+    came_one tile some free made lost comes =
         let is : entries_now ≡ (tile, comes.piece) ∷ others = comes.entries ∙ ap (λ es. (tile, comes.piece) ∷ es) clears.entries in
         let wants = wanted_is size comes.pages comes.wants in
         let stay = all_stay between.client session.client others comes.stay clears.owned.owned in
@@ -476,9 +547,16 @@ module _ {G : Type 0} (old : Cached G) (room size : ℕ) (told : Shown) (between
             sized_room = kept.sized_room;
             some = kept.some;
             granter = start ∙ kept.granter;
+            few = few_counted told old.counts kept.few;
+            accounts = λ fresh all size' is'.
+                rw (← same_size is') (accounts_one tile made lost comes is fresh all);
           },
         )
       where
+        same_size : {size' : ℕ} → (size ≡ 0) ⊎ (size ≡ size') → size ≡ size'
+        same_size (inl none) = absurd (omega (arith, some, none))
+        same_size (inr same) = same
+
         first_of : (t : Tile) → (is_same t t || has_tile old.shown t) ≡ true
         first_of t = rw (same_itself t) refl
 
@@ -512,10 +590,10 @@ module _ {G : Type 0} (old : Cached G) (room : ℕ) (tile : Tile) (piece : Part)
   with_bytes_of = record old { session = record old.session { client = client } }
 
   pub filled : IsKept old room → old.entries ≡ (tile, piece) ∷ others → piece.locked ≡ true → WritesPiece piece w old.session.client client
-      → client.gone ≡ old.session.client.gone → client.heap ≡ old.session.client.heap → KeepsName old.session.client client
+      → client.gone ≡ old.session.client.gone → client.heap ≡ old.session.client.heap → KeepsName old.session.client client → SameSegments old.session.client client
       → take old.tile_bytes w ≡ tile_of tile → HaveTiles tile_of old.session.client old.tile_bytes (drop 1 old.entries)
       → (Lent tile (tile_of tile) with_bytes_of × IsUsedWith tile_of old.tile_bytes with_bytes_of) × (Writes old with_bytes_of × IsKept with_bytes_of room)
-  filled kept is locked writes gone heap name front tiles =
+  filled kept is locked writes gone heap name segments front tiles =
       let owned : AreOwned old.session.client ((tile, piece) ∷ others) = rw is at kept.entries in
       let rest = owned_rest old.session.client tile piece others owned owned.free in
       let stay = others_stay old.session.client client piece.run others writes.stay rest.owned (first_differs old.session.client tile piece others owned) in
@@ -530,6 +608,63 @@ module _ {G : Type 0} (old : Cached G) (room : ℕ) (tile : Tile) (piece : Part)
         ),
         (
           record { heap = heap; gone = gone; name = name; same = refl },
-          record { entries = rw is again; sized = kept.sized; shown = kept.shown; unused = kept.unused; sized_room = kept.sized_room; some = kept.some; granter = kept.granter },
+          record {
+            entries = rw is again;
+            sized = kept.sized;
+            shown = kept.shown;
+            unused = kept.unused;
+            sized_room = kept.sized_room;
+            some = kept.some;
+            granter = kept.granter;
+            few = kept.few;
+            accounts = λ fresh all size is.
+                accounted_moved (pages_for size) old.start.client.standard old.session.grants old.counts.rebuilt (makes_of old.counts) old.session.client client (runs_of old.entries) (runs_of old.entries) segments (λ f. omega arith) (kept.accounts fresh all size is);
+          },
         ),
       )
+
+-- a get that was kept is counted
+pub kept_counted : {G : Type 0} (old : Cached G) (room : ℕ) → IsKept old room → IsKept (record old { counts = counted Kept old.counts }) room
+kept_counted old room kept = record {
+  entries = kept.entries;
+  sized = kept.sized;
+  shown = kept.shown;
+  unused = kept.unused;
+  sized_room = kept.sized_room;
+  some = kept.some;
+  granter = kept.granter;
+  few = few_counted Kept old.counts kept.few;
+  accounts = kept.accounts;
+}
+
+-- a cache as it is made
+pub kept_new : {G : Type 0} (session start : Session G) (entries : List Entry) (most room : ℕ) (shown : List Tile) (counts : Counts) → start ≡ session → entries ≡ [] → counts ≡ no_counts → room ≡ most → 1 ≤ most
+    → IsKept (record { session = session; start = start; entries = entries; most = most; shown = shown; counts = counts; tile_bytes = 0; failed = false }) room
+kept_new session start entries most room shown counts same none unmade size some =
+    rw (same, none, unmade) (record {
+      entries = record {
+        owned = All-nil (λ (e : Entry). Owns session.client e.1);
+        free = All-nil (λ (e : Entry). e.1.locked ≡ false);
+        some = All-nil (λ (run : Run). 1 ≤ run.pages);
+        once = λ id page. omega arith;
+      };
+      sized = All-nil (λ (run : Run). run.pages ≡ pages_for 0);
+      shown = All-nil (λ (tile : Tile). has_tile shown tile ≡ true);
+      unused = λ _. refl;
+      sized_room = size;
+      some = some;
+      granter = refl;
+      few = record { first = omega arith; rebuilt = omega arith; again = omega arith };
+      accounts = λ fresh all size is. record {
+        lost = [];
+        gone = All-nil (λ (run : Run). is_gone session.client run.segment ≡ true);
+        sized = All-nil (λ (run : Run). run.pages ≡ pages_for size);
+        lost_fit = All-nil (Fits session.client);
+        fit = All-nil (Fits session.client);
+        once = λ id page. omega arith;
+        counted = omega arith;
+        room = λ low. rw (fresh.leases, fresh.gone, fresh.grants) (omega arith);
+        granted = rw fresh.grants (omega arith);
+        name = refl;
+      };
+    })

@@ -1,14 +1,13 @@
 -- What the calls on the entries and the client give, in the form in which they answer.
-use Rattle.std.proofs.Common.{◌≡◌, ◌≢◌, ℕ, zero, suc, ◌+◌, ◌-◌, ◌<◌, ◌≤◌, Bool, true, false, cond, List, [], ◌∷◌, ◌++◌, length, take, drop, Option, Some, None, refl, sym, ap, subst, ◌∙◌, inl, inr, arith}
+use Rattle.std.proofs.Common.{◌≡◌, ℕ, zero, suc, ◌+◌, ◌-◌, ◌<◌, ◌≤◌, Bool, true, false, List, [], ◌∷◌, ◌++◌, length, take, drop, Some, None, refl, sym, ap, subst, ◌∙◌, arith}
 use Rattle.std.specs.List.{All, slice_get, IsDistinct}
 use Rattle.std.specs.Option.{option_map_or}
-use Rattle.std.specs.Map.{keys_of, lookup, lookup_entry, remove_entry, set_value}
-use Rattle.std.proofs.lemmas.Bool.{both_ways}
+use Rattle.std.specs.Map.{lookup, lookup_entry, remove_entry, set_value}
 use Rattle.std.proofs.lemmas.Nat.{div-add-mod', mod_below}
 use Rattle.std.proofs.lemmas.List.{length-take}
 use Rattle.std.specs.Prelude.{◌*◌, ◌/◌, ◌%◌}
 use Rattle.std.proofs.lemmas.Option.{same_Some}
-use Rattle.std.proofs.lemmas.List.Elements.{All-head, All-contains, All-nil}
+use Rattle.std.proofs.lemmas.List.Elements.{All-head, All-contains}
 use Rattle.lru.proofs.CallerLemmas.{Contains-lookup_entry}
 use Rattle.tile_source.specs.declared.tile.Tile.{Tile}
 use Rattle.segment.specs.declared.owner.Lock.{Lock}
@@ -20,16 +19,17 @@ use Rattle.client.specs.Sizes.{pages_for}
 use Rattle.units.specs.declared.TheConstants.{PAGE}
 use Rattle.client.specs.Granting.{Session}
 use Rattle.client.specs.declared.answers.Unlocked.{Unlocked}
-use Rattle.tile_cache.specs.declared.counts.Shown.{Shown}
 use Rattle.tile_cache.specs.declared.counts.Shown.TheVariants.{Rebuilt}
 use Rattle.tile_cache.specs.Recent.{is_same}
 use Rattle.tile_cache.specs.Cached.{Cached, AreOwned, AreFree, HaveTiles, IsUsedWith, tiles_of, runs_of}
 use Rattle.tile_cache.specs.Kept.{IsKept}
 use Rattle.tile_cache.specs.Coming.{Clears}
+use Rattle.tile_cache.specs.Accounts.{SameSegments}
+use Rattle.tile_cache.proofs.Segments.{segments_same}
 use Rattle.tile_cache.specs.Getting.{Rests, LocksEntry, MakesRoom, IsFirst, Lent, Writes}
 use Rattle.tile_cache.proofs.TilesAskedLast.{same_itself}
 use Rattle.tile_cache.proofs.EntriesReordered.{Entry, value_found, found_key, once_distinct}
-use Rattle.tile_cache.proofs.CacheSteps.{with_entries, first_is, none_first, set_first, unlocked_first, locked_found, left_last, left_none, cleared, cleared_none, filled}
+use Rattle.tile_cache.proofs.CacheSteps.{with_entries, first_is, none_first, set_first, unlocked_first, locked_found, left_last, cleared, filled}
 
 -- the piece that is found at the first entry's tile is the first entry's
 pub found_first : (entries : List Entry) (e : Entry) (piece : Part) → slice_get entries 0 ≡ Some e → Some piece ≡ lookup (is_same e.0) entries → piece ≡ e.1
@@ -157,6 +157,7 @@ clear_empty session entries entries_now owned none left =
       gone = refl;
       name = record { number = refl; standard = refl };
       fits = omega arith;
+      segments = segments_same session.client session.client refl;
       same = refl;
     }
 
@@ -169,13 +170,13 @@ peeked (x ∷ entries) tile key piece found others is at =
 
 module _ {G : Type 0} (old : Cached G) (room : ℕ) (kept : IsKept old room) (tile : Tile) (tile_of : Tile → List ℕ) (first : IsFirst tile old) (key : Tile) (piece : Part) (at : Some (key, piece) ≡ slice_get old.entries 0) where
   -- the first piece was written
-  pub fill_done : (client : Seen) (w : List ℕ) → WritesPiece piece w old.session.client client → client.gone ≡ old.session.client.gone → client.heap ≡ old.session.client.heap → KeepsName old.session.client client
+  pub fill_done : (client : Seen) (w : List ℕ) → WritesPiece piece w old.session.client client → client.gone ≡ old.session.client.gone → client.heap ≡ old.session.client.heap → KeepsName old.session.client client → SameSegments old.session.client client
       → take old.tile_bytes w ≡ tile_of tile → HaveTiles tile_of old.session.client old.tile_bytes (drop 1 old.entries)
       → (Lent tile (tile_of tile) (record old { session = record old.session { client = client } }) × IsUsedWith tile_of old.tile_bytes (record old { session = record old.session { client = client } }))
       × (Writes old (record old { session = record old.session { client = client } }) × IsKept (record old { session = record old.session { client = client } }) room)
-  fill_done client w writes gone heap name front tiles =
+  fill_done client w writes gone heap name segments front tiles =
       let is = peeked old.entries tile key first.0 piece first.1 first.2 at in
-      filled old room tile first.0 first.1 client w tile_of kept first.2 first.3 (rw is at writes) gone heap name front tiles
+      filled old room tile first.0 first.1 client w tile_of kept first.2 first.3 (rw is at writes) gone heap name segments front tiles
 
 -- a tile's bytes lie in its pages
 pub pages_hold : (n : ℕ) → n ≤ PAGE * pages_for n

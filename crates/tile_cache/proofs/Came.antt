@@ -1,24 +1,21 @@
 -- What an entry's coming does to the client and the entries, from the calls that it makes.
-use Rattle.std.proofs.Common.{◌≡◌, ◌≢◌, ℕ, zero, suc, ◌+◌, ◌-◌, ◌<◌, ◌≤◌, Bool, true, false, ◌||◌, cond, List, [], ◌∷◌, length, take, get_or, Option, Some, None, Result, Ok, Err, refl, sym, ap, subst, ◌∙◌, inl, inr, arith}
-use Rattle.std.specs.List.{All, list_any}
+use Rattle.std.proofs.Common.{◌≡◌, ◌≢◌, ℕ, ◌-◌, ◌<◌, ◌≤◌, Bool, true, false, ◌||◌, cond, List, [], ◌∷◌, length, get_or, Some, None, Err, refl, ap, ◌∙◌, arith}
 use Rattle.std.specs.Map.{lookup, lookup_entry}
 use Rattle.std.proofs.lemmas.Bool.{both_ways}
 use Rattle.std.proofs.lemmas.List.{take_all}
 use Rattle.lru.specs.LruCache.{LruCache, put_entries}
 use Rattle.tile_cache.specs.Recent.{is_same}
 use Rattle.tile_source.specs.declared.tile.Tile.{Tile}
-use Rattle.client.specs.declared.piece.Piece.{Piece}
 use Rattle.client.specs.declared.granted.ClientFault.{ClientFault}
 use Rattle.client.specs.declared.granted.ClientFault.TheVariants as fault
 use Rattle.client.specs.Gone.{Includes}
 use Rattle.client.specs.Seen.{Seen}
-use Rattle.client.specs.Pieces.{Part, Owns, AllStay, OthersStay, IsNew, AreApart}
-use Rattle.client.specs.Sizes.{wanted}
+use Rattle.client.specs.Pieces.{Part, AllStay, OthersStay, IsNew, AreApart}
 use Rattle.client.specs.Calls.{KeepsName, AfterFree}
 use Rattle.client.specs.Granting.{Session, Misses, IsTooLarge, IsOutOfMemory}
 use Rattle.tile_cache.specs.Cached.{AreOwned}
-use Rattle.tile_cache.specs.Coming.{EntriesStay, GoneStay, Comes, ComesNone}
-use Rattle.tile_cache.proofs.ClientSteps.{same_name, name_on, name_found, still_gone, unmoved_freed}
+use Rattle.tile_cache.specs.Coming.{EntriesStay, GoneStay}
+use Rattle.tile_cache.proofs.ClientSteps.{same_name, name_on, name_found, still_gone}
 use Rattle.tile_cache.proofs.EntriesReordered.{Entry}
 use Rattle.tile_cache.proofs.EntriesStay.{all_stay, not_gone_before, has_first}
 

@@ -1,26 +1,25 @@
 -- What the client's steps keep: its name, its pages, and what is known to be gone.
-use Rattle.std.proofs.Common.{◌≡◌, ℕ, zero, suc, ◌+◌, ◌<◌, ◌≤◌, Bool, true, false, not, ◌||◌, cond, List, [], ◌∷◌, ◌++◌, Option, Some, None, MatchOption, refl, sym, ap, subst, ◌∙◌, inl, inr, arith}
-use Rattle.std.specs.List.{filter, sum_by, list_any, count_by}
+use Rattle.std.proofs.Common.{◌≡◌, ℕ, ◌≤◌, Bool, true, false, not, ◌||◌, cond, List, [], ◌∷◌, Option, Some, None, refl, ap, ◌∙◌, inl, inr, arith}
+use Rattle.std.specs.List.{filter, sum_by}
 use Rattle.std.specs.Bool.{MatchBool}
-use Rattle.std.proofs.lemmas.Bool.{cases_Bool, both_ways, true_from_ne_false, or_parts}
+use Rattle.std.proofs.lemmas.Bool.{true_from_ne_false, or_parts}
 use Rattle.std.proofs.lemmas.List.Filters.{sum_by-filter_both}
 use Rattle.std.proofs.lemmas.List.Sums.{sum_by-cons}
 use Rattle.segment.specs.Owned.{Owned}
 use Rattle.segment.specs.declared.owner.Lock.{Lock}
 use Rattle.segment.specs.declared.owner.Lock.TheVariants.{Held, Gone}
 use Rattle.span_heap.specs.declared.run.Run.{Run}
-use Rattle.span_heap.specs.Heap.{Contents, size_of, has_id}
+use Rattle.span_heap.specs.Heap.{size_of, has_id}
 use Rattle.span_heap.specs.Segment.{Segment}
-use Rattle.span_heap.specs.Changes.{Drops}
 use Rattle.span_heap.specs.Pick.{pick}
 use Rattle.client.specs.Gone.{Includes, has_side, is_side}
 use Rattle.client.specs.Lease.{Lease}
-use Rattle.client.specs.Seen.{Seen, is_gone}
+use Rattle.client.specs.Seen.{Seen}
 use Rattle.client.specs.Pieces.{Part}
-use Rattle.client.specs.Calls.{KeepsName, KeepsGone, Leaves, Loses, Turns, LocksRun, AfterPagesLock, LocksPart, UnlocksRun, FreesRun, FreesPart, AfterFree, Unlocks}
+use Rattle.client.specs.Calls.{KeepsName, Loses, Turns, LocksRun, AfterPagesLock, LocksPart, UnlocksRun, FreesRun, AfterFree}
 use Rattle.client.specs.declared.answers.Unlocked.{Unlocked}
 use Rattle.client.specs.Finding.{Finds, Serves, Carves, slack_of}
-use Rattle.client.specs.Granting.{Allocates, Grows}
+use Rattle.client.specs.Granting.{Allocates}
 
 -- the client is the one that it was, and has no more pages
 pub record Goes (old new : Seen) : Type 0 where
@@ -142,7 +141,7 @@ name_allocated pages part old new allocates =
     ]
 
 -- what was known to be gone still is, where the gone ones include those of before
-has_counted : (sides : List Owned) (id : ℕ) → has_side sides id ≡ true → 1 ≤ sum_by (λ (side : Owned). cond {A = ℕ} (is_side id side) 1 0) sides
+pub has_counted : (sides : List Owned) (id : ℕ) → has_side sides id ≡ true → 1 ≤ sum_by (λ (side : Owned). cond {A = ℕ} (is_side id side) 1 0) sides
 has_counted [] id has = cc
 has_counted (side ∷ sides) id has = go (is_side id side) refl has (has_counted sides id)
   where

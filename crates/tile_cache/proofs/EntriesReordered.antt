@@ -1,10 +1,10 @@
 -- The entries after one of them went to the front, or left.
-use Rattle.std.proofs.Common.{◌≡◌, ◌≢◌, ℕ, zero, suc, ◌+◌, ◌-◌, ◌<◌, ◌≤◌, Bool, true, false, not, ◌||◌, cond, List, [], ◌∷◌, ◌++◌, length, take, drop, map, get_or, Option, Some, None, refl, sym, ap, subst, ◌∙◌, inl, inr, arith, length-append, length-take}
-use Rattle.std.specs.List.{All, AllByRecursion, Contains, count_by, sum_by, list_any, IsDistinct, filter, slice_get}
+use Rattle.std.proofs.Common.{◌≡◌, ℕ, ◌+◌, ◌≤◌, Bool, true, false, not, ◌||◌, cond, List, [], ◌∷◌, length, drop, get_or, Some, None, refl, sym, ap, subst, ◌∙◌, arith}
+use Rattle.std.specs.List.{All, AllByRecursion, Contains, sum_by, IsDistinct}
 use Rattle.std.specs.Map.{keys_of, lookup, lookup_entry, remove_entry}
-use Rattle.std.proofs.lemmas.Bool.{cases_Bool, or_parts}
-use Rattle.std.proofs.lemmas.List.Elements.{All-head, All-tail, All-cons, All-nil, All-contains, All-take, Contains-get_or}
-use Rattle.std.proofs.lemmas.List.Sums.{sum_by-cons, sum_by-append, sum_by-take-le}
+use Rattle.std.proofs.lemmas.Bool.{or_parts}
+use Rattle.std.proofs.lemmas.List.Elements.{All-head, All-tail, All-cons, All-nil, All-contains, Contains-get_or}
+use Rattle.std.proofs.lemmas.List.Sums.{sum_by-cons}
 use Rattle.lru.proofs.CallerLemmas.{Contains-lookup_entry, Contains-remove_entry}
 use Rattle.tile_source.specs.declared.tile.Tile.{Tile}
 use Rattle.span_heap.specs.declared.run.Run.{Run}
@@ -12,8 +12,8 @@ use Rattle.span_heap.specs.Run.{has_page}
 use Rattle.client.specs.Seen.{Seen}
 use Rattle.client.specs.Pieces.{Part, Owns}
 use Rattle.tile_cache.specs.Recent.{is_same, has_tile, without}
-use Rattle.tile_cache.specs.Cached.{AreOwned, AreFree, HaveTiles, HasBytes, ShareNoPage, runs_of}
-use Rattle.tile_cache.proofs.TilesAskedLast.{StandsOnce, same_is, same_itself, without_absent}
+use Rattle.tile_cache.specs.Cached.{AreOwned, AreFree, ShareNoPage, runs_of}
+use Rattle.tile_cache.proofs.TilesAskedLast.{StandsOnce, same_is, without_absent}
 
 abbrev pub Entry : Type 0
 Entry = Tile × Part
@@ -33,7 +33,7 @@ sum_found f test (x ∷ es) e found = go (test x.0) found (sum_found f test es e
         ap (λ y. f y + sum_by f es) (sym same) ∙ sym (sum_by-cons f x es)
     go false is rest = omega (arith, rest is, sum_by-cons f x es, sum_by-cons f x (remove_entry test es))
 
-sum_runs : (f : Run → ℕ) (es : List Entry) → sum_by f (runs_of es) ≡ sum_by (λ (e : Entry). f e.1.run) es
+pub sum_runs : (f : Run → ℕ) (es : List Entry) → sum_by f (runs_of es) ≡ sum_by (λ (e : Entry). f e.1.run) es
 sum_runs f [] = refl
 sum_runs f (e ∷ es) = omega (arith, sum_runs f es, sum_by-cons f e.1.run (runs_of es), sum_by-cons (λ (e : Entry). f e.1.run) e es)
 
@@ -45,7 +45,7 @@ all_runs : (P : Run → Type 0) (es : List Entry) → All P (runs_of es) → All
 all_runs P [] all = All-nil (λ (e : Entry). P e.1.run)
 all_runs P (e ∷ es) all = All-cons (λ (e : Entry). P e.1.run) e es (All-head P e.1.run (runs_of es) all) (all_runs P es (All-tail P e.1.run (runs_of es) all))
 
-runs_all : (P : Run → Type 0) (es : List Entry) → All (λ (e : Entry). P e.1.run) es → All P (runs_of es)
+pub runs_all : (P : Run → Type 0) (es : List Entry) → All (λ (e : Entry). P e.1.run) es → All P (runs_of es)
 runs_all P [] all = All-nil P
 runs_all P (e ∷ es) all = All-cons P e.1.run (runs_of es) (All-head (λ (e : Entry). P e.1.run) e es all) (runs_all P es (All-tail (λ (e : Entry). P e.1.run) e es all))
 

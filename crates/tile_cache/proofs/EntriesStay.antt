@@ -1,14 +1,14 @@
 -- The entries stay while the client makes a step on another piece.
-use Rattle.std.proofs.Common.{◌≡◌, ◌≢◌, ℕ, zero, suc, ◌+◌, ◌-◌, ◌<◌, ◌≤◌, Bool, true, false, ◌&&◌, cond, List, [], ◌∷◌, ◌++◌, length, take, drop, map, get_or, refl, sym, ap, subst, ◌∙◌, inl, inr, arith}
-use Rattle.std.specs.List.{All, count_by, Contains}
+use Rattle.std.proofs.Common.{◌≡◌, ◌≢◌, ℕ, zero, suc, ◌+◌, ◌<◌, ◌≤◌, Bool, true, false, cond, List, [], ◌∷◌, length, take, drop, get_or, refl, sym, ap, subst, ◌∙◌, arith}
+use Rattle.std.specs.List.{All, count_by}
 use Rattle.std.proofs.lemmas.Bool.{eq-eqb, and_from, le-leb, lt-ltb, both_ways, false_from_ne_true}
-use Rattle.std.proofs.lemmas.List.Elements.{All-head, All-tail, All-cons, All-nil}
-use Rattle.std.proofs.lemmas.List.Sums.{sum_by-cons, get_or-le-sum_by}
+use Rattle.std.proofs.lemmas.List.Elements.{All-head, All-tail, All-cons}
+use Rattle.std.proofs.lemmas.List.Sums.{sum_by-cons}
 use Rattle.tile_source.specs.declared.tile.Tile.{Tile}
 use Rattle.span_heap.specs.declared.run.Run.{Run}
 use Rattle.span_heap.specs.Run.{has_page}
 use Rattle.client.specs.Seen.{Seen, is_gone}
-use Rattle.client.specs.Pieces.{Part, Owns, Stays, AllStay, OthersStay, AreApart, bytes_of}
+use Rattle.client.specs.Pieces.{Part, Owns, Stays, AllStay, OthersStay, AreApart}
 use Rattle.tile_cache.specs.Coming.{EntriesStay}
 use Rattle.tile_cache.specs.Cached.{AreOwned, AreFree, HaveTiles, HasBytes, ShareNoPage, runs_of}
 

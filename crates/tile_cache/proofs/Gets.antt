@@ -1,6 +1,5 @@
 -- A get, from its steps.
-use Rattle.std.proofs.Common.{◌≡◌, ℕ, zero, suc, ◌+◌, ◌-◌, ◌<◌, ◌≤◌, max, Bool, true, false, not, ◌||◌, cond, List, [], ◌∷◌, ◌++◌, length, take, drop, map, Option, Some, None, refl, sym, ap, subst, ◌∙◌, inl, inr, arith, length-take}
-use Rattle.std.specs.List.{All, list_any}
+use Rattle.std.proofs.Common.{◌≡◌, ℕ, zero, suc, ◌-◌, ◌≤◌, max, Bool, true, false, ◌||◌, cond, List, [], ◌∷◌, take, drop, Some, None, refl, sym, ap, subst, ◌∙◌, inl, inr, arith, length-take}
 use Rattle.std.specs.Map.{keys_of, lookup}
 use Rattle.std.proofs.lemmas.Bool.{cases_Bool}
 use Rattle.std.proofs.lemmas.List.{take-map}
@@ -8,10 +7,9 @@ use Rattle.std.proofs.lemmas.List.Elements.{All-cons, All-take, All-head}
 use Rattle.tile_source.specs.declared.tile.Tile.{Tile}
 use Rattle.units.specs.Count.{next_count}
 use Rattle.segment.specs.declared.owner.Lock.TheVariants as lock
-use Rattle.span_heap.specs.declared.run.Run.{Run}
 use Rattle.span_heap.specs.Heap.{size_of}
-use Rattle.client.specs.Seen.{Seen, is_gone}
-use Rattle.client.specs.Pieces.{Part, bytes_of, part_after_lock}
+use Rattle.client.specs.Seen.{is_gone}
+use Rattle.client.specs.Pieces.{Part, part_after_lock}
 use Rattle.client.specs.Sizes.{pages_for}
 use Rattle.client.specs.Calls.{KeepsName}
 use Rattle.client.specs.Granting.{granted_pages}
@@ -20,9 +18,8 @@ use Rattle.tile_cache.specs.declared.counts.Shown.TheVariants.{Kept, First, Rebu
 use Rattle.tile_cache.specs.Recent.{is_same, has_tile, without}
 use Rattle.tile_cache.specs.Shown.{counted, made_after}
 use Rattle.tile_cache.specs.declared.counts.Counts.{Counts}
-use Rattle.tile_cache.specs.Cached.{Cached, IsUsedWith, AreFree, HaveTiles, HasBytes, runs_of, tiles_of}
-use Rattle.tile_cache.specs.Asked.{StandsFor}
-use Rattle.tile_cache.specs.Getting.{Answers, HasEntry, Gets, Fails, Lent, KeepsMaking, ChangesEntries, KeepsUse, Rests, LocksEntry, HasNone, MakesRoom, IsShown, CanMake, IsReady, StandsReady, LooksUp, Adds, AddsNone, Writes, left, others_of, pages_of}
+use Rattle.tile_cache.specs.Cached.{Cached, IsUsedWith, HasBytes, runs_of, tiles_of}
+use Rattle.tile_cache.specs.Getting.{Answers, HasEntry, Gets, Fails, Lent, KeepsMaking, ChangesEntries, KeepsUse, Rests, LocksEntry, HasNone, MakesRoom, IsReady, StandsReady, LooksUp, Adds, AddsNone, Writes, left, others_of, pages_of}
 use Rattle.tile_cache.proofs.TilesAskedLast.{without_absent, same_is}
 use Rattle.tile_cache.proofs.EntriesReordered.{Entry, key_absent}
 use Rattle.tile_cache.proofs.ClientSteps.{name_on}

@@ -7,3 +7,7 @@ pub mod CacheSteps
 pub mod Gets
 pub mod CallsDone
 pub mod Came
+pub mod Room
+pub mod Segments
+pub mod Accounting
+pub mod Closing

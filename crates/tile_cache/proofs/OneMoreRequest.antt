@@ -1,18 +1,16 @@
 -- What a cache stands for after one more request.
-use Rattle.std.proofs.Common.{◌≡◌, ℕ, zero, suc, ◌+◌, ◌-◌, ◌^◌, ◌<◌, ◌≤◌, min, Bool, true, false, not, ◌&&◌, ◌||◌, cond, List, [], ◌∷◌, ◌++◌, length, take, reverse, Some, None, refl, sym, ap, subst, ◌∙◌, inl, inr, arith, append_assoc, append-nil, length-append}
+use Rattle.std.proofs.Common.{◌≡◌, ℕ, zero, suc, ◌+◌, ◌<◌, ◌≤◌, Bool, true, false, ◌||◌, cond, List, [], ◌∷◌, ◌++◌, length, take, reverse, Some, refl, sym, ap, ◌∙◌, arith, append_assoc, append-nil, length-append}
 use Rattle.std.proofs.lemmas.List.{reverse-append}
-use Rattle.std.specs.List.{list_any}
-use Rattle.std.specs.Map.{keys_of, lookup}
-use Rattle.std.proofs.lemmas.Bool.{cases_Bool, both_ways, true_from_ne_false, or_parts}
+use Rattle.std.specs.Map.{lookup}
+use Rattle.std.proofs.lemmas.Bool.{both_ways, true_from_ne_false, or_parts}
 use Rattle.std.proofs.lemmas.List.Folds.{list_any-append}
 use Rattle.tile_source.specs.declared.tile.Tile.{Tile}
-use Rattle.units.specs.Count.{next_count}
 use Rattle.client.specs.Pieces.{Part}
 use Rattle.client.specs.Granting.{LAST_COUNT}
 use Rattle.tile_cache.specs.declared.counts.Counts.{Counts}
 use Rattle.tile_cache.specs.declared.counts.Shown.{Shown}
 use Rattle.tile_cache.specs.declared.counts.Shown.TheVariants.{Kept, First, Rebuilt, Again}
-use Rattle.tile_cache.specs.Recent.{is_same, has_tile, without, each_once, recent, is_hit, is_first, is_again, count_after, hits, firsts, agains}
+use Rattle.tile_cache.specs.Recent.{is_same, has_tile, each_once, is_hit, is_first, is_again, count_after}
 use Rattle.tile_cache.specs.Shown.{counted, no_counts}
 use Rattle.tile_cache.specs.Cached.{Cached, tiles_of}
 use Rattle.tile_cache.specs.Asked.{Count, StandsFor, Fits}

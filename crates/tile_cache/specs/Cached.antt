@@ -1,5 +1,5 @@
 -- What is seen of a cache.
-use Rattle.std.specs.Prelude.{◌≡◌, ◌⊎◌, ℕ, ◌≤◌, Bool, true, false, List, take, drop, map, All, count_by}
+use Rattle.std.specs.Prelude.{◌≡◌, ◌⊎◌, ℕ, ◌≤◌, Bool, false, List, take, drop, map, All, count_by}
 use Rattle.std.specs.Map.{keys_of}
 use Rattle.tile_source.specs.declared.tile.Tile.{Tile}
 use Rattle.span_heap.specs.declared.run.Run.{Run}

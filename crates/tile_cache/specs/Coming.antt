@@ -1,5 +1,5 @@
 -- How an entry comes and leaves.
-use Rattle.std.specs.Prelude.{◌≡◌, ℕ, ◌+◌, ◌≤◌, Bool, true, ◌||◌, List, ◌∷◌, All, Some}
+use Rattle.std.specs.Prelude.{◌≡◌, ℕ, ◌+◌, ◌≤◌, true, ◌||◌, List, ◌∷◌, All, Some}
 use Rattle.span_heap.specs.Heap.{size_of}
 use Rattle.tile_source.specs.declared.tile.Tile.{Tile}
 use Rattle.client.specs.Seen.{Seen, is_gone}
@@ -11,6 +11,7 @@ use Rattle.tile_cache.specs.declared.counts.Shown.{Shown}
 use Rattle.tile_cache.specs.Recent.{is_same, has_tile}
 use Rattle.tile_cache.specs.Cached.{AreOwned}
 use Rattle.tile_cache.specs.Getting.{others_of}
+use Rattle.tile_cache.specs.Accounts.{SameSegments}
 
 -- each piece of these entries stays
 abbrev pub EntriesStay : Seen → Seen → List (Tile × Part) → Type 0
@@ -29,6 +30,7 @@ module _ {G : Type 0} where
     pub gone : new.client.gone ≡ old.client.gone
     pub name : KeepsName old.client new.client
     pub fits : size_of new.client.heap.segments ≤ size_of old.client.heap.segments
+    pub segments : SameSegments old.client new.client
     pub same : new ≡ record old { client = new.client }
 
   -- A new piece came, for a tile of so many bytes, and its entry is in front. The tile is among those shown.

@@ -1,5 +1,5 @@
 -- What is left of a cache that was closed.
-use Rattle.std.specs.Prelude.{◌≡◌, ℕ, List}
+use Rattle.std.specs.Prelude.{◌≡◌, List}
 use Rattle.tile_source.specs.declared.tile.Tile.{Tile}
 use Rattle.client.specs.Gone.{AreGone}
 use Rattle.client.specs.declared.ending.ClientEnd.{ClientEnd}

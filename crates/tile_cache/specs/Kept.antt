@@ -1,14 +1,15 @@
 -- What holds of a cache at every moment.
-use Rattle.std.specs.Prelude.{◌≡◌, ℕ, ◌≤◌, true, List, [], All}
+use Rattle.std.specs.Prelude.{◌≡◌, ℕ, ◌≤◌, true, [], All}
 use Rattle.std.specs.Map.{keys_of}
 use Rattle.tile_source.specs.declared.tile.Tile.{Tile}
 use Rattle.span_heap.specs.declared.run.Run.{Run}
 use Rattle.client.specs.Sizes.{pages_for}
 use Rattle.tile_cache.specs.Recent.{has_tile}
 use Rattle.tile_cache.specs.Cached.{Cached, AreOwned, runs_of}
+use Rattle.tile_cache.specs.Accounts.{AreCounts, AreAccounted}
 
 -- Its client owns the pieces of its entries, each of which has the pages of a tile; each of its tiles was shown; and the granter's start is
--- that of its client.
+-- that of its client. No count of tiles made is above its last value, and the client's segments are accounted for.
 pub record IsKept {G : Type 0} (cache : Cached G) (room : ℕ) : Type 0 where
   pub entries : AreOwned cache.session.client cache.entries
   pub sized : All (λ (run : Run). run.pages ≡ pages_for cache.tile_bytes) (runs_of cache.entries)
@@ -17,3 +18,5 @@ pub record IsKept {G : Type 0} (cache : Cached G) (room : ℕ) : Type 0 where
   pub sized_room : room ≡ cache.most
   pub some : 1 ≤ cache.most
   pub granter : cache.session.start ≡ cache.start.start
+  pub few : AreCounts cache.counts
+  pub accounts : AreAccounted cache

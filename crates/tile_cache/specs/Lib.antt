@@ -6,3 +6,5 @@ pub mod Asked
 pub mod Getting
 pub mod Coming
 pub mod Ended
+pub mod Bound
+pub mod Accounts

@@ -7,7 +7,7 @@ ghost use Rattle.units.specs.declared.TheConstants.{MOST_PAGES, PAGE};
 ghost use Rattle.span_heap.specs.Heap.{size_of};
 ghost use Rattle.tile_source.specs.declared.tile.Tile.{Tile as Square};
 ghost use Rattle.tile_source.specs.Tile.{IsTile};
-ghost use Rattle.client.specs.Granting.{IsSettled};
+ghost use Rattle.client.specs.Granting.{IsSettled, RoseBy, LAST_COUNT};
 ghost use Rattle.tile_cache.specs.Recent.{has_tile, is_same};
 ghost use Rattle.units.specs.Count.{next_count};
 ghost use Rattle.tile_cache.specs.declared.counts.Shown.TheVariants as kind;
@@ -16,6 +16,7 @@ ghost use Rattle.tile_cache.specs.Cached.{IsUsedWith, AreFree, HaveTiles};
 ghost use Rattle.tile_cache.specs.Asked.{StandsFor};
 ghost use Rattle.tile_cache.specs.Getting.{Gets, Fails, Lent, Rests, LocksEntry, HasNone, MakesRoom, LooksUp, CanMake, Adds, AddsNone, KeepsBytes, IsFirst, Writes};
 ghost use Rattle.tile_cache.specs.Ended.{Closes};
+ghost use Rattle.tile_cache.specs.Bound.{EndsBounded};
 
 use crate::counts::{Counts, Shown};
 use crate::ending::{CacheEnd, Uncached};
@@ -284,8 +285,9 @@ impl<G: Granter + Drop> Cache<G> {
         }
     }
 
-    /// Counts one answer.
+    /// Counts a get that made no tile.
     fn count(&mut self, shown: Shown)
+        requires { shown ≡ kind.Kept }
         ensures { self.new ≡ record self.old { counts = counted shown self.old.counts } }
     {
         self.counts.count(shown);
@@ -361,8 +363,13 @@ impl<G: Granter + Drop> Cache<G> {
 
     /// Ends the cache: every segment of its client is given back. The end has the tiles of the entries and
     /// the counts of the cache, and what its client left.
+    ///
+    /// Where the cache was made over a client that had been granted nothing, and no get was out of memory:
+    /// each rebuilt tile had room of its own in a segment that was found gone, each tile of an entry has room
+    /// of its own in a segment that was granted, and no more segments were granted than tiles were made.
     pub fn close<H: Threads + Wait + Sync>(self, rt: &H) -> CacheEnd
-        ensures { Closes self result }
+        ensures closes { Closes self result }
+        ensures bounded { EndsBounded self result }
     {
         let (end, _granter) = self.close_with(rt);
         end
@@ -370,12 +377,17 @@ impl<G: Granter + Drop> Cache<G> {
 
     /// Ends the cache as `close` does, and hands the granter back. Since the client was made over it, it
     /// made as many grants as the end tells, and as many returns, where no count of it stands at its last
-    /// value. Its standing is the one that it had.
+    /// value. Its count of grants is what it was and those that the end tells, or the last value where that
+    /// is less. Its standing is the one that it had.
     pub fn close_with<H: Threads + Wait + Sync>(self, rt: &H) -> (CacheEnd, G)
         ensures closes { Closes self result.0 }
         ensures settled { IsSettled (G.grants self.start.start) (G.grants result.1)
             (G.returns self.start.start) (G.returns result.1) result.0.client.grants }
+        ensures exact { RoseBy (G.grants self.start.start) (G.grants result.1)
+            result.0.client.grants }
+        ensures within { result.0.client.grants ≤ LAST_COUNT }
         ensures standing { G.standing result.1 ≡ G.standing self.start.start }
+        ensures bounded { EndsBounded self result.0 }
     {
         let Cache {
             granted,
@@ -383,6 +395,8 @@ impl<G: Granter + Drop> Cache<G> {
             counts,
             ..
         } = self;
+        // Where the count of grants stands at its last value, the entries are no more than that.
+        let _tiles = entries.len();
         let (client, granter) = granted.close_with(rt);
         (CacheEnd::of(entries, counts, client), granter)
     }

@@ -1,5 +1,5 @@
 use Rattle.std.proofs.Common.{sym, ap}
-use Rattle.tile_cache.proofs.CallsDone.{first_is_owned, clear_done, clear_empty}
+use Rattle.tile_cache.proofs.CallsDone.{first_is_owned, clear_done}
 use Rattle.tile_cache.proofs.keeping.clear.Goals as goal
 
 pub free-requires-clause-owned : goal.free-requires-clause-owned

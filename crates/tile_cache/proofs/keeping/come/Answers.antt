@@ -1,9 +1,5 @@
-use Rattle.std.proofs.Common.{◌≡◌, ◌||◌, ℕ, sym, ap, subst, ◌∙◌, refl, List, ◌≤◌}
+use Rattle.std.proofs.Common.{◌≡◌, ◌||◌, sym, ap, ◌∙◌, refl}
 use Rattle.std.proofs.lemmas.Option.{same_Some}
-use Rattle.segment.specs.Owned.{Owned}
-use Rattle.span_heap.specs.Heap.{size_of}
-use Rattle.client.specs.Seen.{is_gone}
-use Rattle.client.specs.Granting.{AllocatesCounted, granted_pages}
 use Rattle.tile_cache.proofs.EntriesStay.{all_stay}
 use Rattle.tile_cache.proofs.ClientSteps.{name_on, name_allocated, unmoved_freed}
 use Rattle.tile_cache.proofs.CacheSteps.{wanted_is}

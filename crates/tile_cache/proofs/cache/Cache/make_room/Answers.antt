@@ -1,4 +1,4 @@
-use Rattle.std.proofs.Common.{sym, ap, arith, ◌≤◌, length, ◌≡◌}
+use Rattle.std.proofs.Common.{ap, arith, ◌≤◌, length}
 use Rattle.tile_cache.proofs.CallsDone.{room_done, last_there, last_owned}
 use Rattle.tile_cache.proofs.cache.Cache.make_room.Goals as goal
 
