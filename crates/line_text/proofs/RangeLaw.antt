@@ -13,8 +13,8 @@ use Rattle.line_text.specs.declared.command.Command.{Command}
 use Rattle.line_text.specs.Number.{number_of, within}
 use Rattle.line_text.specs.Lines.{kept_lines}
 use Rattle.line_text.specs.Hex.{hex_bytes, hex_digit}
-use Rattle.line_text.specs.Script.{◌>>=◌, Commands, number, segment, client, moment, first_page, page_count, page_limit, is_critical, byte_place, byte_count, bytes, grant, lock, unlock, write, read, try_purge, back, reduce, enforce, pressure, limit, remove, granted, manager_command, named_command, command_of, next_command, is_one_too_many, at_line, commands_after, script_of}
-use Rattle.line_text.specs.Ranges.{IsBetween, IsClient, IsLimit, IsFirstPage, IsPageCount, IsBytePlace, IsByteCount, IsInRange, AreInRange}
+use Rattle.line_text.specs.Script.{◌>>=◌, Commands, number, segment, client, moment, first_page, page_count, page_limit, is_critical, byte_place, byte_count, bytes, grant, lock, unlock, write, read, try_purge, back, reduce, enforce, pressure, limit, remove, granted, alloc, piece_lock, piece_unlock, piece_write, piece_read, piece_free, sweep, release, runs, piece_size, piece, manager_command, piece_command, named_command, command_of, next_command, is_one_too_many, at_line, commands_after, script_of}
+use Rattle.line_text.specs.Ranges.{IsBetween, IsClient, IsLimit, IsFirstPage, IsPageCount, IsBytePlace, IsPieceSize, IsByteCount, IsInRange, AreInRange}
 
 -- what a second step gives is well, where it is for all that the first may give
 then : {A B E : Type 0} (r : Result A E) (P : A → Type 0) (f : A → Result B E) (Q : B → Type 0) → IfOk r P → ((x : A) → P x → IfOk (f x) Q) → IfOk (r >>= f) Q
@@ -60,6 +60,12 @@ with_limit word f = then (page_limit word) _ f IsInRange (in_range word 0 MOST_L
 
 with_place : (word : List ℕ) (f : ℕ → Result Command Cause) → ((x : ℕ) → IsBytePlace x → IfOk (f x) IsInRange) → IfOk (byte_place word >>= f) IsInRange
 with_place word f = then (byte_place word) _ f IsInRange (in_range word 0 (MOST_SEGMENT_PAGES * PAGE - 1))
+
+with_size : (word : List ℕ) (f : ℕ → Result Command Cause) → ((x : ℕ) → IsPieceSize x → IfOk (f x) IsInRange) → IfOk (piece_size word >>= f) IsInRange
+with_size word f = then (piece_size word) _ f IsInRange (in_range word 0 (MOST_SEGMENT_PAGES * PAGE))
+
+with_piece : (word : List ℕ) (f : ℕ → Result Command Cause) → ((x : ℕ) → IsBetween 0 (2 ^ 64 - 1) x → IfOk (f x) IsInRange) → IfOk (piece word >>= f) IsInRange
+with_piece word f = then (piece word) _ f IsInRange (in_range word 0 (2 ^ 64 - 1))
 
 with_count : (word : List ℕ) (f : ℕ → Result Command Cause) → ((x : ℕ) → IsByteCount x → IfOk (f x) IsInRange) → IfOk (byte_count word >>= f) IsInRange
 with_count word f = then (byte_count word) _ f IsInRange (in_range word 1 MOST_MOVED_BYTES)
@@ -168,6 +174,54 @@ manager_in name words =
     (choice _ (bytes_eq name (codes "remove")) _ _ (remove_in words)
     (choice _ (bytes_eq name (codes "granted")) _ _ (granted_in words) tt))))))
 
+alloc_in : (words : List (List ℕ)) → IfOk (alloc words) IsInRange
+alloc_in (c ∷ b ∷ t ∷ []) = with_client c _ (λ owner a. with_size b _ (λ size b. with_moment t _ (λ at d. (a, b, d))))
+alloc_in _ = tt
+
+piece_lock_in : (words : List (List ℕ)) → IfOk (piece_lock words) IsInRange
+piece_lock_in (k ∷ []) = with_piece k _ (λ told i. tt)
+piece_lock_in _ = tt
+
+piece_unlock_in : (words : List (List ℕ)) → IfOk (piece_unlock words) IsInRange
+piece_unlock_in (k ∷ t ∷ []) = with_piece k _ (λ told i. with_moment t _ (λ at a. a))
+piece_unlock_in _ = tt
+
+piece_write_in : (words : List (List ℕ)) → IfOk (piece_write words) IsInRange
+piece_write_in (k ∷ p ∷ h ∷ []) = with_piece k _ (λ told i. with_place p _ (λ place a. with_bytes h _ (λ content b. (a, b))))
+piece_write_in _ = tt
+
+piece_read_in : (words : List (List ℕ)) → IfOk (piece_read words) IsInRange
+piece_read_in (k ∷ p ∷ r ∷ []) = with_piece k _ (λ told i. with_place p _ (λ place a. with_count r _ (λ count b. (a, b))))
+piece_read_in _ = tt
+
+piece_free_in : (words : List (List ℕ)) → IfOk (piece_free words) IsInRange
+piece_free_in (k ∷ t ∷ []) = with_piece k _ (λ told i. with_moment t _ (λ at a. a))
+piece_free_in _ = tt
+
+sweep_in : (words : List (List ℕ)) → IfOk (sweep words) IsInRange
+sweep_in (c ∷ []) = with_client c _ (λ owner a. a)
+sweep_in _ = tt
+
+release_in : (words : List (List ℕ)) → IfOk (release words) IsInRange
+release_in (c ∷ []) = with_client c _ (λ owner a. a)
+release_in _ = tt
+
+runs_in : (words : List (List ℕ)) → IfOk (runs words) IsInRange
+runs_in (c ∷ []) = with_client c _ (λ owner a. a)
+runs_in _ = tt
+
+piece_in : (name : List ℕ) (words : List (List ℕ)) → IfOk (piece_command name words) IsInRange
+piece_in name words =
+    choice _ (bytes_eq name (codes "alloc")) _ _ (alloc_in words)
+    (choice _ (bytes_eq name (codes "plock")) _ _ (piece_lock_in words)
+    (choice _ (bytes_eq name (codes "punlock")) _ _ (piece_unlock_in words)
+    (choice _ (bytes_eq name (codes "pwrite")) _ _ (piece_write_in words)
+    (choice _ (bytes_eq name (codes "pread")) _ _ (piece_read_in words)
+    (choice _ (bytes_eq name (codes "pfree")) _ _ (piece_free_in words)
+    (choice _ (bytes_eq name (codes "sweep")) _ _ (sweep_in words)
+    (choice _ (bytes_eq name (codes "release")) _ _ (release_in words)
+    (choice _ (bytes_eq name (codes "runs")) _ _ (runs_in words) (manager_in name words)))))))))
+
 named_in : (name : List ℕ) (words : List (List ℕ)) → IfOk (named_command name words) IsInRange
 named_in name words =
     choice _ (bytes_eq name (codes "grant")) _ _ (grant_in words)
@@ -175,7 +229,7 @@ named_in name words =
     (choice _ (bytes_eq name (codes "unlock")) _ _ (unlock_in words)
     (choice _ (bytes_eq name (codes "write")) _ _ (write_in words)
     (choice _ (bytes_eq name (codes "read")) _ _ (read_in words)
-    (choice _ (bytes_eq name (codes "try")) _ _ (try_in words) (manager_in name words))))))
+    (choice _ (bytes_eq name (codes "try")) _ _ (try_in words) (piece_in name words))))))
 
 command_in : (words : List (List ℕ)) → IfOk (command_of words) IsInRange
 command_in [] = tt

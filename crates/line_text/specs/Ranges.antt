@@ -5,7 +5,7 @@ use Rattle.units.specs.declared.TheConstants.{PAGE}
 use Rattle.units.specs.Moment.{IsMoment}
 use Rattle.line_text.specs.declared.limits.TheConstants.{LAST_CLIENT, MOST_SEGMENT_PAGES, MOST_LIMIT, MOST_MOVED_BYTES}
 use Rattle.line_text.specs.declared.command.Command.{Command}
-use Rattle.line_text.specs.declared.command.Command.TheVariants.{Grant, Lock, Unlock, Write, Read, Try, Back, Reduce, Enforce, Pressure, Limit, Remove, Granted}
+use Rattle.line_text.specs.declared.command.Command.TheVariants.{Grant, Lock, Unlock, Write, Read, Try, Back, Reduce, Enforce, Pressure, Limit, Remove, Alloc, PieceLock, PieceUnlock, PieceWrite, PieceRead, PieceFree, Sweep, Release, Runs, Granted}
 use Rattle.line_text.specs.Script.{Commands}
 
 -- a number lies from least to most
@@ -32,6 +32,10 @@ IsPageCount count = IsBetween 1 MOST_SEGMENT_PAGES count
 abbrev pub IsBytePlace : ℕ → Type 0
 IsBytePlace place = IsBetween 0 (MOST_SEGMENT_PAGES * PAGE - 1) place
 
+-- the size of a piece, in bytes
+abbrev pub IsPieceSize : ℕ → Type 0
+IsPieceSize size = IsBetween 0 (MOST_SEGMENT_PAGES * PAGE) size
+
 -- a count of bytes
 abbrev pub IsByteCount : ℕ → Type 0
 IsByteCount count = IsBetween 1 MOST_MOVED_BYTES count
@@ -50,6 +54,15 @@ IsInRange (Enforce at) = IsMoment at
 IsInRange (Pressure critical at) = IsMoment at
 IsInRange (Limit limit at) = IsLimit limit × IsMoment at
 IsInRange (Remove client) = IsClient client
+IsInRange (Alloc client size at) = IsClient client × IsPieceSize size × IsMoment at
+IsInRange (PieceLock piece) = Unit {0}
+IsInRange (PieceUnlock piece at) = IsMoment at
+IsInRange (PieceWrite piece place bytes) = IsBytePlace place × IsByteCount (length bytes)
+IsInRange (PieceRead piece place count) = IsBytePlace place × IsByteCount count
+IsInRange (PieceFree piece at) = IsMoment at
+IsInRange (Sweep client) = IsClient client
+IsInRange (Release client) = IsClient client
+IsInRange (Runs client) = IsClient client
 IsInRange Granted = Unit {0}
 
 -- so does each word of each command

@@ -11,7 +11,7 @@ use Rattle.line_text.specs.Lines.{kept_lines}
 use Rattle.line_text.specs.declared.cause.Cause.{Cause}
 use Rattle.line_text.specs.declared.cause.Cause.TheVariants as cause
 use Rattle.line_text.specs.declared.command.Command.{Command}
-use Rattle.line_text.specs.declared.command.Command.TheVariants.{Grant, Lock, Unlock, Write, Read, Try, Back, Reduce, Enforce, Pressure, Limit, Remove, Granted}
+use Rattle.line_text.specs.declared.command.Command.TheVariants.{Grant, Lock, Unlock, Write, Read, Try, Back, Reduce, Enforce, Pressure, Limit, Remove, Alloc, PieceLock, PieceUnlock, PieceWrite, PieceRead, PieceFree, Sweep, Release, Runs, Granted}
 use Rattle.line_text.specs.declared.fault.LineFault.{LineFault}
 use Rattle.line_text.specs.declared.fault.LineFault.TheVariants.{Refused, Memory}
 use Rattle.line_text.specs.declared.fault.ScriptFault.{ScriptFault}
@@ -63,6 +63,14 @@ is_critical word =
 -- the place of a byte in a segment
 abbrev pub byte_place : List ℕ → Result ℕ Cause
 byte_place word = number word 0 (MOST_SEGMENT_PAGES * PAGE - 1)
+
+-- the size of a piece, in bytes
+abbrev pub piece_size : List ℕ → Result ℕ Cause
+piece_size word = number word 0 (MOST_SEGMENT_PAGES * PAGE)
+
+-- a piece
+abbrev pub piece : List ℕ → Result ℕ Cause
+piece word = number word 0 (2 ^ 64 - 1)
 
 -- a count of bytes
 abbrev pub byte_count : List ℕ → Result ℕ Cause
@@ -178,6 +186,77 @@ abbrev pub granted : List (List ℕ) → Result Command Cause
 granted [] = Ok Granted
 granted words = Err cause.Count
 
+-- `alloc` C B T: a piece of B bytes for the client C, at T
+abbrev pub alloc : List (List ℕ) → Result Command Cause
+alloc (c ∷ b ∷ t ∷ []) = do
+  owner ← client c
+  size ← piece_size b
+  at ← moment t
+  Ok (Alloc owner size at)
+alloc words = Err cause.Count
+
+-- `plock` K: the piece K
+abbrev pub piece_lock : List (List ℕ) → Result Command Cause
+piece_lock (k ∷ []) = do
+  told ← piece k
+  Ok (PieceLock told)
+piece_lock words = Err cause.Count
+
+-- `punlock` K T: the piece K, at T
+abbrev pub piece_unlock : List (List ℕ) → Result Command Cause
+piece_unlock (k ∷ t ∷ []) = do
+  told ← piece k
+  at ← moment t
+  Ok (PieceUnlock told at)
+piece_unlock words = Err cause.Count
+
+-- `pwrite` K P HEX: these bytes of the piece K from P on
+abbrev pub piece_write : List (List ℕ) → Result Command Cause
+piece_write (k ∷ p ∷ h ∷ []) = do
+  told ← piece k
+  place ← byte_place p
+  content ← bytes h
+  Ok (PieceWrite told place content)
+piece_write words = Err cause.Count
+
+-- `pread` K P R: R bytes of the piece K from P on
+abbrev pub piece_read : List (List ℕ) → Result Command Cause
+piece_read (k ∷ p ∷ r ∷ []) = do
+  told ← piece k
+  place ← byte_place p
+  count ← byte_count r
+  Ok (PieceRead told place count)
+piece_read words = Err cause.Count
+
+-- `pfree` K T: the piece K is given up at T
+abbrev pub piece_free : List (List ℕ) → Result Command Cause
+piece_free (k ∷ t ∷ []) = do
+  told ← piece k
+  at ← moment t
+  Ok (PieceFree told at)
+piece_free words = Err cause.Count
+
+-- `sweep` C: a look at the client C's segments that have no locked page
+abbrev pub sweep : List (List ℕ) → Result Command Cause
+sweep (c ∷ []) = do
+  owner ← client c
+  Ok (Sweep owner)
+sweep words = Err cause.Count
+
+-- `release` C: each segment of the client C that is all free is given back
+abbrev pub release : List (List ℕ) → Result Command Cause
+release (c ∷ []) = do
+  owner ← client c
+  Ok (Release owner)
+release words = Err cause.Count
+
+-- `runs` C: the free runs of the client C
+abbrev pub runs : List (List ℕ) → Result Command Cause
+runs (c ∷ []) = do
+  owner ← client c
+  Ok (Runs owner)
+runs words = Err cause.Count
+
 -- a command to the manager, by its name
 abbrev pub manager_command : List ℕ → List (List ℕ) → Result Command Cause
 manager_command name words =
@@ -190,7 +269,21 @@ manager_command name words =
     else if bytes_eq name (codes "granted") then granted words
     else Err cause.Word
 
--- a command for one segment, or else one to the manager, by its name
+-- a command on a client's pieces, or else one to the manager, by its name
+abbrev pub piece_command : List ℕ → List (List ℕ) → Result Command Cause
+piece_command name words =
+    if bytes_eq name (codes "alloc") then alloc words
+    else if bytes_eq name (codes "plock") then piece_lock words
+    else if bytes_eq name (codes "punlock") then piece_unlock words
+    else if bytes_eq name (codes "pwrite") then piece_write words
+    else if bytes_eq name (codes "pread") then piece_read words
+    else if bytes_eq name (codes "pfree") then piece_free words
+    else if bytes_eq name (codes "sweep") then sweep words
+    else if bytes_eq name (codes "release") then release words
+    else if bytes_eq name (codes "runs") then runs words
+    else manager_command name words
+
+-- a command on one segment, or else one of the others, by its name
 abbrev pub named_command : List ℕ → List (List ℕ) → Result Command Cause
 named_command name words =
     if bytes_eq name (codes "grant") then grant words
@@ -199,7 +292,7 @@ named_command name words =
     else if bytes_eq name (codes "write") then write words
     else if bytes_eq name (codes "read") then read words
     else if bytes_eq name (codes "try") then try_purge words
-    else manager_command name words
+    else piece_command name words
 
 -- the command that the words of a line are, or the first cause against it
 abbrev pub command_of : List (List ℕ) → Result Command Cause
@@ -217,6 +310,7 @@ Gives (Err Memory) said = Unit {0}
 -- whether a command may be granted a segment; a script has at most 1,024 such
 abbrev pub is_grant : Command → Bool
 is_grant (Grant owner pages at) = true
+is_grant (Alloc owner size at) = true
 is_grant _ = false
 
 -- a script is a list of commands, each with the number of its line

@@ -3,8 +3,9 @@ ghost use Rattle.line_text.specs.Script.{is_grant};
 
 use units::Bytes;
 
-/// A command of a script. Segments are told by their numbers, from the oldest grant on; pages and
-/// bytes are counted from the first of the segment, which is 0.
+/// A command of a script. Segments are told by their numbers, from the oldest grant on, and pieces
+/// by theirs, from the first that was allocated on, which is 1; pages and bytes are counted from the
+/// first of the segment, or of the piece, which is 0.
 #[derive(Debug, Drop)]
 pub enum Command {
     /// A segment of 1 to 512 pages for a client from 1 to 64, at a moment.
@@ -72,6 +73,50 @@ pub enum Command {
     Remove {
         client: u64,
     },
+    /// Allocates a piece of 0 to 2,097,152 bytes for a client from 1 to 64, at a moment.
+    Alloc {
+        client: u64,
+        size: u64,
+        at: u64,
+    },
+    /// Locks a piece.
+    PieceLock {
+        piece: u64,
+    },
+    /// Unlocks a piece, at a moment.
+    PieceUnlock {
+        piece: u64,
+        at: u64,
+    },
+    /// Writes 1 to 4096 bytes from the byte `place` of a piece on.
+    PieceWrite {
+        piece: u64,
+        place: u64,
+        bytes: Bytes,
+    },
+    /// Reads `count` bytes, 1 to 4096, from the byte `place` of a piece on.
+    PieceRead {
+        piece: u64,
+        place: u64,
+        count: u64,
+    },
+    /// Gives a piece up, at a moment.
+    PieceFree {
+        piece: u64,
+        at: u64,
+    },
+    /// Looks at the segments of a client from 1 to 64 that have no locked page.
+    Sweep {
+        client: u64,
+    },
+    /// Gives back each segment of a client from 1 to 64 that is all free.
+    Release {
+        client: u64,
+    },
+    /// Asks for the free runs of a client from 1 to 64.
+    Runs {
+        client: u64,
+    },
     /// Asks how many pages are granted.
     Granted,
 }
@@ -81,6 +126,6 @@ impl Command {
     pub(crate) fn is_grant(&self) -> bool
         ensures { result ≡ is_grant self.now }
     {
-        matches!(self, Command::Grant { .. })
+        matches!(self, Command::Grant { .. } | Command::Alloc { .. })
     }
 }

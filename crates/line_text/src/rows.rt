@@ -1,6 +1,6 @@
 ghost use Rattle.std.specs.Prelude.{◌≡◌, ◌≢◌, [], ◌∷◌, length, IfOk, IfErr};
 ghost use Rattle.line_text.specs.Lines.{words_of, HasNoWord, HasFirstWord};
-ghost use Rattle.line_text.specs.Script.{number, segment, client, moment, first_page, page_count, byte_place, byte_count, grant, lock, unlock, write, read, try_purge, back, reduce, enforce, pressure, limit, remove, granted, page_limit, is_critical, manager_command, command_of, Gives};
+ghost use Rattle.line_text.specs.Script.{number, segment, client, moment, first_page, page_count, byte_place, byte_count, grant, lock, unlock, write, read, try_purge, back, reduce, enforce, pressure, limit, remove, granted, page_limit, is_critical, piece_size, piece, alloc, piece_lock, piece_unlock, piece_write, piece_read, piece_free, sweep, release, runs, manager_command, piece_command, command_of, Gives};
 ghost use Rattle.line_text.specs.declared.cause.Cause.TheVariants.{Count};
 
 use crate::cause::Cause;
@@ -118,6 +118,18 @@ fn byte_place(word: &[u8]) -> Result<u64, Cause>
     ensures { result ≡ byte_place word.now }
 {
     number(word, 0, MOST_SEGMENT_PAGES * PAGE - 1)
+}
+
+fn piece_size(word: &[u8]) -> Result<u64, Cause>
+    ensures { result ≡ piece_size word.now }
+{
+    number(word, 0, MOST_SEGMENT_PAGES * PAGE)
+}
+
+fn piece(word: &[u8]) -> Result<u64, Cause>
+    ensures { result ≡ piece word.now }
+{
+    number(word, 0, u64::MAX)
 }
 
 fn byte_count(word: &[u8]) -> Result<u64, Cause>
@@ -253,6 +265,98 @@ fn granted(words: &[u8]) -> Result<Command, Cause>
     }
 }
 
+fn alloc(words: &[u8]) -> Result<Command, Cause>
+    ensures { result ≡ alloc (words_of words.now) }
+{
+    let (owner, size, at) = three_words(words)?;
+    Ok(Command::Alloc {
+        client: client(owner)?,
+        size: piece_size(size)?,
+        at: moment(at)?,
+    })
+}
+
+fn piece_lock(words: &[u8]) -> Result<Command, Cause>
+    ensures { result ≡ piece_lock (words_of words.now) }
+{
+    let told = one_word(words)?;
+    Ok(Command::PieceLock {
+        piece: piece(told)?,
+    })
+}
+
+fn piece_unlock(words: &[u8]) -> Result<Command, Cause>
+    ensures { result ≡ piece_unlock (words_of words.now) }
+{
+    let (told, at) = two_words(words)?;
+    Ok(Command::PieceUnlock {
+        piece: piece(told)?,
+        at: moment(at)?,
+    })
+}
+
+fn piece_write(memory: Global, words: &[u8]) -> Result<Command, LineFault>
+    ensures { Gives result (piece_write (words_of words.now)) }
+{
+    let (told, place, bytes) = three_words(words)?;
+    let piece = piece(told)?;
+    let place = byte_place(place)?;
+    let bytes = read_hex(memory, bytes)?.ok_or(Cause::Bytes)?;
+    Ok(Command::PieceWrite {
+        piece,
+        place,
+        bytes,
+    })
+}
+
+fn piece_read(words: &[u8]) -> Result<Command, Cause>
+    ensures { result ≡ piece_read (words_of words.now) }
+{
+    let (told, place, count) = three_words(words)?;
+    Ok(Command::PieceRead {
+        piece: piece(told)?,
+        place: byte_place(place)?,
+        count: byte_count(count)?,
+    })
+}
+
+fn piece_free(words: &[u8]) -> Result<Command, Cause>
+    ensures { result ≡ piece_free (words_of words.now) }
+{
+    let (told, at) = two_words(words)?;
+    Ok(Command::PieceFree {
+        piece: piece(told)?,
+        at: moment(at)?,
+    })
+}
+
+fn sweep(words: &[u8]) -> Result<Command, Cause>
+    ensures { result ≡ sweep (words_of words.now) }
+{
+    let owner = one_word(words)?;
+    Ok(Command::Sweep {
+        client: client(owner)?,
+    })
+}
+
+fn release(words: &[u8]) -> Result<Command, Cause>
+    ensures { result ≡ release (words_of words.now) }
+{
+    let owner = one_word(words)?;
+    Ok(Command::Release {
+        client: client(owner)?,
+    })
+}
+
+fn runs(words: &[u8]) -> Result<Command, Cause>
+    ensures { result ≡ runs (words_of words.now) }
+{
+    let owner = one_word(words)?;
+    Ok(Command::Runs {
+        client: client(owner)?,
+    })
+}
+
 fn manager_command(name: &[u8], words: &[u8]) -> Result<Command, Cause>
     ensures { result ≡ manager_command name.now (words_of words.now) }
 {
@@ -275,6 +379,32 @@ fn manager_command(name: &[u8], words: &[u8]) -> Result<Command, Cause>
     }
 }
 
+fn piece_command(memory: Global, name: &[u8], words: &[u8]) -> Result<Command, LineFault>
+    ensures { Gives result (piece_command name.now (words_of words.now)) }
+{
+    if name == b"alloc".as_slice() {
+        Ok(alloc(words)?)
+    } else if name == b"plock".as_slice() {
+        Ok(piece_lock(words)?)
+    } else if name == b"punlock".as_slice() {
+        Ok(piece_unlock(words)?)
+    } else if name == b"pwrite".as_slice() {
+        piece_write(memory, words)
+    } else if name == b"pread".as_slice() {
+        Ok(piece_read(words)?)
+    } else if name == b"pfree".as_slice() {
+        Ok(piece_free(words)?)
+    } else if name == b"sweep".as_slice() {
+        Ok(sweep(words)?)
+    } else if name == b"release".as_slice() {
+        Ok(release(words)?)
+    } else if name == b"runs".as_slice() {
+        Ok(runs(words)?)
+    } else {
+        Ok(manager_command(name, words)?)
+    }
+}
+
 /// The command that a line is, whose first word is its name.
 pub(crate) fn command(alloc: Global, name: &[u8], words: &[u8]) -> Result<Command, LineFault>
     ensures { Gives result (command_of (name.now ∷ words_of words.now)) }
@@ -292,6 +422,6 @@ pub(crate) fn command(alloc: Global, name: &[u8], words: &[u8]) -> Result<Comman
     } else if name == b"try".as_slice() {
         Ok(try_purge(words)?)
     } else {
-        Ok(manager_command(name, words)?)
+        piece_command(alloc, name, words)
     }
 }

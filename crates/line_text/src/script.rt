@@ -56,7 +56,7 @@ impl Script {
 ///
 /// A text of more than 1,048,576 bytes is refused before all else. Then the first line that is
 /// refused counts: by its first word, then by how many words it has, then by the words from left to
-/// right, and then where it is the 4,097th command or the 1,025th grant.
+/// right, and then where it is the 4,097th command or the 1,025th that may be granted a segment.
 pub fn read_script(alloc: Global, bytes: &[u8]) -> Result<Script, ScriptFault>
     ensures { Reads result bytes.now }
 {

@@ -8,3 +8,4 @@ pub mod Standing
 pub mod Tries
 pub mod Returns
 pub mod Chances
+pub mod Allocating

@@ -16,6 +16,7 @@ use Rattle.machine.proofs.Sound.{sound}
 use Rattle.machine.proofs.Whole.{granted}
 use Rattle.discard_book.specs.declared.entry.Entry.{Entry}
 use Rattle.discard_book.specs.declared.entry.Entry.TheVariants as entry
+use Rattle.script_heaps.specs.Showing.{Shows}
 use Rattle.replay_plain.specs.declared.run.PlainRun.{PlainRun}
 use Rattle.replay_plain.specs.declared.known.KnownSegments.{KnownSegments}
 use Rattle.replay_plain.specs.State.{ReplayState, entries_by, entries_of, after_event, is_grant, grants_of, next_grant}
@@ -24,17 +25,25 @@ use Rattle.replay_plain.specs.Run.{RunStandsFor}
 use Rattle.replay_plain.proofs.Effects.{is_quiet}
 use Rattle.replay_plain.proofs.Following.{all_quiet}
 
+-- the limit, the standard size and the heaps are as before
+pub record Stays (old new : PlainRun) : Type 0 where
+  pub limit : new.limit ≡ old.limit
+  pub standard : new.standard ≡ old.standard
+  pub heaps : new.heaps ≡ old.heaps
+
 -- the next state: the segments, what is kept of them and the entries followed one event more
 pub stands_next : (state : ReplayState) (e : Event) (old new : PlainRun) (more : List Entry)
     → StandsFor new.segments (state.events ++ e ∷ []) → TellsAll (state.events ++ e ∷ []) new.known
-    → new.entries.items ≡ old.entries.items ++ more → more ≡ entries_of state.limit state.events e → new.limit ≡ old.limit
+    → new.entries.items ≡ old.entries.items ++ more → more ≡ entries_of state.limit state.events e → Stays old new
     → RunStandsFor old state → RunStandsFor new (after_event state e)
-stands_next state e old new more segments known entries is limit w =
+stands_next state e old new more segments known entries is stays w =
     record {
       segments = segments;
       known = known;
       entries = entries ∙ ap (λ xs. xs ++ more) w.entries ∙ ap (λ xs. state.entries ++ xs) is;
-      limit = limit ∙ w.limit;
+      limit = stays.limit ∙ w.limit;
+      standard = stays.standard ∙ w.standard;
+      heaps = subst (λ kept. Shows kept state.heaps) (sym stays.heaps) w.heaps;
     }
 
 quiet_entries : (limit : ℕ) (events : List Event) (e : Event) (a : Answer) → is_quiet e a ≡ true → entries_by limit events e a ≡ []
@@ -48,13 +57,13 @@ quiet_entries limit events _ _ q = refl
 
 -- an event whose answer changes nothing that is kept
 pub stands_quiet : (state : ReplayState) (e : Event) (a : Answer) (old new : PlainRun) → is_grant e ≡ false → is_quiet e a ≡ true → a ≡ answer state.events e
-    → StandsFor new.segments (state.events ++ e ∷ []) → new.known ≡ old.known → new.entries.items ≡ old.entries.items → new.limit ≡ old.limit
+    → StandsFor new.segments (state.events ++ e ∷ []) → new.known ≡ old.known → new.entries.items ≡ old.entries.items → Stays old new
     → RunStandsFor old state → RunStandsFor new (after_event state e)
-stands_quiet state e a old new no_grant q is segments known entries limit w =
+stands_quiet state e a old new no_grant q is segments known entries stays w =
     stands_next state e old new [] segments
     (all_quiet state.events e a new.known no_grant (sym is) q (subst (TellsAll state.events) (sym known) w.known))
     (entries ∙ sym (append-nil old.entries.items))
-    (sym (quiet_entries state.limit state.events e a q) ∙ ap (entries_by state.limit state.events e) is) limit w
+    (sym (quiet_entries state.limit state.events e a q) ∙ ap (entries_by state.limit state.events e) is) stays w
 
 pub owners_quiet : (e : Event) (a : Answer) → is_owners e ≡ true → (is_grant e ≡ false) × (is_quiet e a ≡ true)
 unfolding is_quiet
@@ -97,9 +106,9 @@ pub stands_drawn : (state : ReplayState) (id client pages : ℕ) (old new : Plai
     → ((events : List Event) → StandsFor old.segments events → StandsFor new.segments (events ++ Grant id client pages ∷ []))
     → ((events : List Event) (n : ℕ) → TellsAll events old.known → answer events (Grant n client pages) ≡ Granted n → n ≡ id
     → TellsAll (events ++ Grant n client pages ∷ []) new.known)
-    → new.entries.items ≡ old.entries.items ++ entry.Grant id client pages old.limit ∷ [] → new.limit ≡ old.limit
+    → new.entries.items ≡ old.entries.items ++ entry.Grant id client pages old.limit ∷ [] → Stays old new
     → RunStandsFor old state → RunStandsFor new (after_event state (next_grant state client pages))
-stands_drawn state id client pages old new number some few most segments known entries limit w =
+stands_drawn state id client pages old new number some few most segments known entries stays w =
     let next : id ≡ grants_of state + 1 = number ∙ w.known.drawn in
     let is = draws state old.known client pages w.known some few most in
     stands_next state (next_grant state client pages) old new (entry.Grant id client pages old.limit ∷ [])
@@ -108,4 +117,4 @@ stands_drawn state id client pages old new number some few most segments known e
     entries
     (ap (λ n. entry.Grant n client pages old.limit ∷ []) next ∙ ap (λ l. entry.Grant (grants_of state + 1) client pages l ∷ []) w.limit
     ∙ ap (entries_by state.limit state.events (next_grant state client pages)) (sym is))
-    limit w
+    stays w

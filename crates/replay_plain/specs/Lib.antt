@@ -3,7 +3,9 @@ pub mod State
 pub mod Reductions
 pub mod Least
 pub mod Known
+pub mod Pieces
 pub mod Run
+pub mod Searching
 pub mod Commands
 pub mod Replies
 pub mod Records

@@ -7,18 +7,28 @@ use Rattle.machine.specs.declared.event.Answer.TheVariants.{Granted, Taken, Coun
 use Rattle.machine.specs.Answers.{answer, known}
 use Rattle.discard_book.specs.declared.entry.Entry.{Entry}
 use Rattle.discard_book.specs.declared.entry.Entry.TheVariants as entry
+use Rattle.script_heaps.specs.Heaps.{Heaps, no_heaps}
 use Rattle.replay_plain.specs.declared.config.ReplayCfg.{ReplayCfg}
 
 -- What a replay is between two commands: the events so far, the oldest first, the limit of granted
--- pages now, and the entries of the book so far.
+-- pages now, the entries of the book so far, the standard size of a segment, and the clients' heaps.
 pub record ReplayState : Type 0 where
   pub events : List Event
   pub limit : ℕ
   pub entries : List Entry
+  pub standard : ℕ
+  pub heaps : Heaps
 
 -- the state in front of the first command
 abbrev pub first_state : ReplayCfg → ReplayState
-first_state cfg = record { events = []; limit = cfg.limit; entries = [] }
+first_state cfg =
+    record {
+      events = [];
+      limit = cfg.limit;
+      entries = [];
+      standard = cfg.standard;
+      heaps = no_heaps;
+    }
 
 -- the known use of a segment as a number: none counts as 0
 abbrev pub known_use : List Event → ℕ → ℕ

@@ -39,7 +39,7 @@ impl KnownSegments {
     ghost use Rattle.machine.specs.declared.event.Answer.TheVariants as answers;
     ghost use Rattle.machine.specs.Reduction.{least};
     ghost use Rattle.machine.specs.History.{client_of};
-    ghost use Rattle.machine.specs.Answers.{answer, answered, plain};
+    ghost use Rattle.machine.specs.Answers.{answer, answered, plain, live};
     ghost use Rattle.replay_plain.specs.State.{known_use};
     ghost use Rattle.replay_plain.specs.Reductions.{live_segments};
     ghost use Rattle.replay_plain.specs.Least.{least_told};
@@ -62,7 +62,8 @@ impl KnownSegments {
 
     /// The number that the next grant draws.
     pub(crate) fn next(&self) -> u64
-        ensures { result ≡ length self.now.table.items }
+        ensures next { result ≡ length self.now.table.items }
+        ensures few { 2 * result < 2 ^ 64 }
     {
         self.table.len() as u64
     }
@@ -152,11 +153,22 @@ impl KnownSegments {
 
     /// Whether the number is that of a client's segment that was not given back.
     pub(crate) fn has(&self, client: u32, id: u64) -> bool
-        ensures { (events : List Event) → TellsAll events self.now → id < length self.now.table.items
+        ensures { (events : List Event) → TellsAll events self.now
+            → id < length self.now.table.items
             → result ≡ (client_of (answered events) id == client && plain events id) }
     {
         match self.table.get(id) {
             Some(segment) => segment.client == client && segment.plain,
+            None => false,
+        }
+    }
+
+    /// Whether the number is that of a live segment.
+    pub(crate) fn is_live(&self, id: u64) -> bool
+        ensures { (events : List Event) → TellsAll events self.now → result ≡ live events id }
+    {
+        match self.table.get(id) {
+            Some(segment) => segment.live,
             None => false,
         }
     }

@@ -28,7 +28,10 @@ impl Model for Uses {
 
     ghost Value = { Kept };
 
-    ghost view = { λ u. record { entries = pairs (heap_items u.heap); room = heap_capacity u.heap } };
+    ghost view = { λ u. record {
+      entries = pairs (heap_items u.heap);
+      room = heap_capacity u.heap;
+    } };
 
     ghost invariant = { λ u. IsHeap cmp_entries (heap_items u.heap) };
 }

@@ -1,10 +1,12 @@
 #![tactic(auto)]
-//! Runs the commands of a script on plain segments: the reply to each, and the book that they make.
+//! Runs the commands of a script on plain segments and the heaps of its clients: the reply to each, and
+//! the book that they make.
 
 mod config;
 mod known;
 mod laws;
 mod least;
+mod pieces;
 mod reducing;
 mod reply;
 mod run;
@@ -13,8 +15,10 @@ mod table;
 
 pub use config::ReplayCfg;
 pub use laws::law_reductions_end;
+pub use pieces::pages_for;
 pub use reply::{
-    push_answer, push_back_answer, push_granted, push_hex, push_reduced, push_removed,
+    push_answer, push_back_answer, push_freed, push_granted, push_hex, push_piece, push_reduced,
+    push_released, push_removed, push_runs, push_swept,
 };
 pub use run::PlainRun;
 

@@ -3,11 +3,12 @@ ghost use Rattle.std.specs.Prelude.{◌≡◌, ◌++◌, ◌≤◌, ◌^◌, OnO
 ghost use Rattle.std.specs.List.{flat_map};
 ghost use Rattle.hex.specs.Hex.{encode_lower};
 ghost use Rattle.discard_book.specs.Text.{spaced_or_dash};
-ghost use Rattle.replay_plain.specs.Replies.{answer_text, back_answer_text, purged_text, reduced_words, removed_words, granted_words};
+ghost use Rattle.replay_plain.specs.Replies.{answer_text, back_answer_text, purged_text, reduced_words, removed_words, granted_words, piece_words, freed_words, swept_words, released_words, run_words, runs_words};
 
 use discard_book::Entry;
 use itoa::{Buffer, Integer};
 use machine::Answer;
+use span_heap::{Run, Runs};
 use units::NoMemory;
 
 /// The words of an answer.
@@ -86,6 +87,64 @@ pub fn push_granted(text: &mut Vec<u8>, pages: u128) -> Result<(), NoMemory>
     ensures { OnOk result (text.new.items ≡ text.old.items ++ granted_words pages) }
 {
     push_number(text, b"granted ", pages)
+}
+
+/// The words of a piece: its number, whether free pages served it or a new segment, and its pages.
+pub fn push_piece(text: &mut Vec<u8>, number: u64, old: bool, run: Run) -> Result<(), NoMemory>
+    ensures { OnOk result (text.new.items ≡ text.old.items ++ piece_words number old run) }
+{
+    push_number(text, b"piece ", number)?;
+    push_words(text, if old { b" old" } else { b" new" })?;
+    push_number(text, b" ", run.segment)?;
+    push_number(text, b" ", run.first)?;
+    push_number(text, b" ", run.pages)
+}
+
+/// The words of a freed piece: whether its segment was still its client's.
+pub fn push_freed(text: &mut Vec<u8>, there: bool) -> Result<(), NoMemory>
+    ensures { OnOk result (text.new.items ≡ text.old.items ++ freed_words there) }
+{
+    if there {
+        push_words(text, b"freed")
+    } else {
+        push_words(text, b"dead")
+    }
+}
+
+/// The words of a sweep: how many segments were found gone.
+pub fn push_swept(text: &mut Vec<u8>, count: u64) -> Result<(), NoMemory>
+    ensures { OnOk result (text.new.items ≡ text.old.items ++ swept_words count) }
+{
+    push_number(text, b"swept ", count)
+}
+
+/// The words of a release: how many segments were counted off.
+pub fn push_released(text: &mut Vec<u8>, count: u64) -> Result<(), NoMemory>
+    ensures { OnOk result (text.new.items ≡ text.old.items ++ released_words count) }
+{
+    push_number(text, b"released ", count)
+}
+
+/// The words of free runs, the oldest first.
+pub fn push_runs(text: &mut Vec<u8>, runs: &Runs) -> Result<(), NoMemory>
+    ensures { OnOk result (text.new.items ≡ text.old.items ++ runs_words runs.now) }
+{
+    push_words(text, b"runs")?;
+    for place in 0..runs.len() {
+        if let Some(run) = runs.get(place) {
+            push_run(text, run)?;
+        }
+    }
+    Ok(())
+}
+
+/// A free run, behind a space: its segment, its first page and its pages.
+fn push_run(text: &mut Vec<u8>, run: Run) -> Result<(), NoMemory>
+    ensures { OnOk result (text.new.items ≡ text.old.items ++ run_words run) }
+{
+    push_number(text, b" ", run.segment)?;
+    push_number(text, b":", run.first)?;
+    push_number(text, b"+", run.pages)
 }
 
 /// Bytes in lower-case hexadecimal digits.

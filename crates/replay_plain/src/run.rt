@@ -1,23 +1,22 @@
 ghost use Rattle.std.specs.Prelude.{◌≡◌, ◌≤◌, ◌++◌, vec_len, OnOk, IfOk};
-ghost use Rattle.line_text.specs.Ranges.{IsByteCount, IsInRange};
-ghost use Rattle.replay_plain.specs.State.{ReplayState, first_state, after_events};
+ghost use Rattle.line_text.specs.Ranges.{IsByteCount, IsClient, IsInRange};
+ghost use Rattle.replay_plain.specs.State.{ReplayState, first_state};
 ghost use Rattle.replay_plain.specs.Reductions.{after_reduction};
-ghost use Rattle.replay_plain.specs.Commands.{returns_of, state_after};
+ghost use Rattle.replay_plain.specs.Commands.{after_removal, state_after};
 ghost use Rattle.replay_plain.specs.Replies.{read_text, reduced_text, removed_text, reply_of};
 ghost use Rattle.replay_plain.specs.Run.{RunStandsFor};
 
 use crate::config::ReplayCfg;
 use crate::known::KnownSegments;
-use crate::reply::{
-    push_answer, push_back_answer, push_granted, push_hex, push_reduced, push_removed,
-};
+use crate::reply::{push_answer, push_granted, push_hex, push_reduced, push_removed};
 use discard_book::Entry;
 use line_text::Command;
 use machine::{Answer, Event, PlainSegments};
+use script_heaps::ScriptHeaps;
 use std::alloc::Global;
 use units::NoMemory;
 
-/// A run of commands on plain segments, with the entries of its book. It stands for the state of a
+/// A run of commands on plain segments and the heaps of the clients, with the entries of its book. It stands for the state of a
 /// replay. After `NoMemory` it stands for none.
 #[derive(Drop)]
 pub struct PlainRun {
@@ -28,6 +27,9 @@ pub struct PlainRun {
     pub(crate) entries: Vec<Entry>,
     /// The limit of granted pages now.
     pub(crate) limit: u64,
+    /// The standard size of a segment in pages.
+    pub(crate) standard: u32,
+    pub(crate) heaps: ScriptHeaps,
     /// Room for the bytes of a read, kept from one read to the next.
     room: Vec<u8>,
 }
@@ -42,6 +44,8 @@ impl PlainRun {
             known: KnownSegments::new(alloc)?,
             entries: Vec::new(alloc),
             limit: cfg.limit,
+            standard: cfg.standard,
+            heaps: ScriptHeaps::new(alloc)?,
             room: Vec::new(alloc),
         })
     }
@@ -79,7 +83,7 @@ impl PlainRun {
                 let (id, first, count) = (*id, *first as u32, *count as u32);
                 push_answer(
                     reply,
-                    self.happen(alloc, &Event::Lock { id, first, count })?,
+                    self.numbered(alloc, id, &Event::Lock { id, first, count })?,
                 )
             }
             Command::Unlock {
@@ -91,8 +95,9 @@ impl PlainRun {
                 let (id, first, count, at) = (*id, *first as u32, *count as u32, *at);
                 push_answer(
                     reply,
-                    self.happen(
+                    self.numbered(
                         alloc,
+                        id,
                         &Event::Unlock {
                             id,
                             first,
@@ -103,11 +108,11 @@ impl PlainRun {
                 )
             }
             Command::Write { id, place, bytes } => {
-                push_answer(reply, self.write(alloc, *id, *place, bytes)?)
+                push_answer(reply, self.write_numbered(alloc, *id, *place, bytes)?)
             }
-            Command::Read { id, place, count } => self.read(*id, *place, *count, reply),
+            Command::Read { id, place, count } => { self.read_numbered(*id, *place, *count, reply) }
             Command::Try { id, at } => push_answer(reply, self.try_purge(alloc, *id, *at)?),
-            Command::Back { id } => push_back_answer(reply, self.give_back(alloc, *id)?),
+            Command::Back { id } => self.back_numbered(alloc, *id, reply),
             Command::Reduce { limit, at } => self.reduced(alloc, *limit, *at, reply),
             Command::Enforce { at } => self.reduced(alloc, self.limit, *at, reply),
             Command::Pressure { critical, at } => {
@@ -115,13 +120,38 @@ impl PlainRun {
                 self.reduced(alloc, limit, *at, reply)
             }
             Command::Limit { limit, at } => self.limited(alloc, *limit, *at, reply),
-            Command::Remove { client } => self.remove(alloc, *client as u32, reply),
+            Command::Remove { client } => self.remove(alloc, *client, reply),
+            Command::Alloc { client, size, at } => {
+                self.allocate(alloc, *client, *size, *at, reply)
+            }
+            Command::PieceLock { piece } => self.lock_piece(alloc, *piece, reply),
+            Command::PieceUnlock { piece, at } => self.unlock_piece(alloc, *piece, *at, reply),
+            Command::PieceWrite {
+                piece,
+                place,
+                bytes,
+            } => self.write_piece(alloc, *piece, *place, bytes, reply),
+            Command::PieceRead {
+                piece,
+                place,
+                count,
+            } => self.read_piece(*piece, *place, *count, reply),
+            Command::PieceFree { piece, at } => self.free_piece(alloc, *piece, *at, reply),
+            Command::Sweep { client } => self.swept(alloc, *client, reply),
+            Command::Release { client } => self.release(alloc, *client, reply),
+            Command::Runs { client } => self.runs(alloc, *client, reply),
             Command::Granted => push_granted(reply, self.known.pages()),
         }
     }
 
     /// The reply to a read, which changes nothing but the room.
-    fn read(&mut self, id: u64, place: u64, count: u64, reply: &mut Vec<u8>) -> Result<(), NoMemory>
+    pub(crate) fn read(
+        &mut self,
+        id: u64,
+        place: u64,
+        count: u64,
+        reply: &mut Vec<u8>,
+    ) -> Result<(), NoMemory>
         requires { IsByteCount count }
         ensures reply { OnOk result ((state : ReplayState) → RunStandsFor self.old state
             → reply.new.items ≡ reply.old.items ++ read_text state id place count) }
@@ -185,16 +215,18 @@ impl PlainRun {
     }
 
     /// The reply to the removal of a client, whose segments are given back.
-    fn remove(&mut self, alloc: Global, client: u32, reply: &mut Vec<u8>) -> Result<(), NoMemory>
+    fn remove(&mut self, alloc: Global, client: u64, reply: &mut Vec<u8>) -> Result<(), NoMemory>
+        requires { IsClient client }
         ensures reply { OnOk result ((state : ReplayState) → RunStandsFor self.old state
-            → reply.new.items
-            ≡ reply.old.items ++ removed_text state (after_events state (returns_of state client))) }
+            → reply.new.items ≡ reply.old.items
+            ++ removed_text state (after_removal state client)) }
         ensures state { OnOk result ((state : ReplayState) → RunStandsFor self.old state
-            → RunStandsFor self.new (after_events state (returns_of state client))) }
+            → RunStandsFor self.new (after_removal state client)) }
         ensures more { OnOk result (vec_len self.old.entries ≤ vec_len self.new.entries) }
     {
         let before = self.entries.len();
-        self.give_back_all(alloc, client)?;
+        self.give_back_all(alloc, client as u32)?;
+        self.heaps.empty(alloc, client)?;
         push_removed(reply, (self.entries.len() - before) as u64)
     }
 }

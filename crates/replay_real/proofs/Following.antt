@@ -27,6 +27,8 @@ use Rattle.replay_plain.specs.State.{ReplayState, first_state, is_grant, grants_
 use Rattle.replay_plain.specs.Replies.{answer_text, grant_text}
 use Rattle.replay_plain.specs.Commands.{after_grant}
 use Rattle.replay_real.specs.declared.owners.Given.{Given}
+use Rattle.replay_real.specs.declared.heaps.Heaps.{Heaps}
+use Rattle.replay_real.specs.Emptiness.{AreEmpty}
 use Rattle.replay_real.specs.Owners.{given_at, ShowsEach}
 use Rattle.replay_real.specs.Standing.{StandsFor}
 use Rattle.replay_real.proofs.TableSteps.{unknown_past}
@@ -60,10 +62,10 @@ grants_more : (state : ReplayState) (e : Event) → grants_of (after_event state
 grants_more state e = sum_by_push (λ x. cond (is_grant x) 1 0) state.events e
 
 -- the run stands for the state after such an event, if its segments show it
-pub stands_after : (manager : Managed) (old new : List Given) (state : ReplayState) (e : Event) → IsPlain state e → StandsFor manager old state
+pub stands_after : {heaps : Heaps} (manager : Managed) (old new : List Given) (state : ReplayState) (e : Event) → IsPlain state e → StandsFor manager old heaps state
     → ((h : History) → ShowsEach h old → ShowsEach ((e, answer_of h e) ∷ h) new)
     → ((id : ℕ) → (given_at new id).client ≡ (given_at old id).client) → length new ≡ length old
-    → StandsFor manager new (after_event state e)
+    → StandsFor manager new heaps (after_event state e)
 stands_after manager old new state e plain w shows clients places =
     let same : state.entries ++ entries_of state.limit state.events e ≡ state.entries = ap (λ (xs : List Entry). state.entries ++ xs) plain.no_entry ∙ append-nil state.entries in
     let grants : grants_of (after_event state e) ≡ grants_of state = grants_more state e ∙ ap {B = ℕ} (λ b. grants_of state + cond b 1 0) plain.no_grant ∙ add-zero (grants_of state) in
@@ -78,6 +80,8 @@ stands_after manager old new state e plain w shows clients places =
       granted = ap granted_by_entries same ∙ w.granted ∙ sym pages;
       clients = λ id. clients id ∙ w.clients id ∙ sym (plain.clients id) ∙ sym (ap (λ (h : History). client_of h id) (more_answered state.events e));
       owners = subst (λ (h : History). ShowsEach h new) (sym (more_answered state.events e)) (shows (answered state.events) w.owners);
+      none = w.none;
+      empty = w.empty;
     }
   where
     grants_in : List Entry → ℕ
@@ -111,7 +115,7 @@ pub record GrantsNext (state : ReplayState) (client pages : ℕ) (side : Owned) 
   entries : new.entries ≡ state.entries ++ entry.Grant (grants_of state + 1) client pages state.limit ∷ []
   limit : new.limit ≡ state.limit
 
-pub grants_next : (state : ReplayState) (client pages now : ℕ) (side : Owned) (old new : Managed) (table : List Given) → StandsFor old table state
+pub grants_next : {heaps : Heaps} (state : ReplayState) (client pages now : ℕ) (side : Owned) (old new : Managed) (table : List Given) → StandsFor old table heaps state
     → 1 ≤ client → 1 ≤ pages → pages ≤ MOST_PAGES
     → nat_lt (room state.limit pages) (granted state.events) ≡ false → Grants client pages now side old new → GrantsNext state client pages side old new
 grants_next state client pages now side old new table w some least most enough made =
@@ -134,11 +138,11 @@ grants_next state client pages now side old new table w some least most enough m
     }
 
 -- the run stands for the state after a grant
-pub stands_granted : (state : ReplayState) (client pages : ℕ) (side : Owned) (old new : Managed) (table left : List Given) → StandsFor old table state
+pub stands_granted : {heaps : Heaps} (state : ReplayState) (client pages : ℕ) (side : Owned) (old new : Managed) (table left : List Given) → StandsFor old table heaps state
     → GrantsNext state client pages side old new
     → ((h : History) → ShowsEach h table → ShowsEach ((Grant (grants_of state + 1) client pages, Granted (grants_of state + 1)) ∷ h) left)
     → ((id : ℕ) → (given_at left id).client ≡ cond (length table == id) client (given_at table id).client) → length left ≡ length table + 1
-    → StandsFor new left (after_grant state client pages)
+    → StandsFor new left heaps (after_grant state client pages)
 stands_granted state client pages side old new table left w next shows clients places =
     let id = grants_of state + 1 in
     let e = next_grant state client pages in
@@ -161,6 +165,8 @@ stands_granted state client pages side old new table left w next shows clients p
       clients = λ s. clients s ∙ ap (λ (n : ℕ). cond (n == s) client (given_at table s).client) w.places ∙ ap (λ (c : ℕ). cond (id == s) client c) (w.clients s)
           ∙ sym (client_more h id client pages id s) ∙ sym (ap (λ (g : History). client_of g s) history);
       owners = subst (λ (g : History). ShowsEach g left) (sym history) (shows h w.owners);
+      none = w.none;
+      empty = w.empty;
     }
   where
     grants_in : List Entry → ℕ
@@ -173,10 +179,10 @@ grant_words state client pages side old new next =
     ap (λ (id : ℕ). answer_text (Granted id)) next.number ∙ ap answer_text next.answered
 
 -- before the first command
-pub stands_first : (cfg : ReplayCfg) (manager : Managed) (table : List Given) → manager.entries ≡ [] → manager.limit ≡ cfg.limit → ShowsEach [] table
-    → ((id : ℕ) → (given_at table id).client ≡ 0) → length table ≡ 1 → StandsFor manager table (first_state cfg)
+pub stands_first : (cfg : ReplayCfg) (manager : Managed) (table : List Given) (heaps : Heaps) → manager.entries ≡ [] → manager.limit ≡ cfg.limit → ShowsEach [] table
+    → ((id : ℕ) → (given_at table id).client ≡ 0) → length table ≡ 1 → AreEmpty heaps → StandsFor manager table heaps (first_state cfg)
 unfolding answered_after client_of granted_numbers
-stands_first cfg manager table entries limit shows clients places =
+stands_first cfg manager table heaps entries limit shows clients places empty =
     record {
       entries = entries;
       limit = limit;
@@ -185,6 +191,8 @@ stands_first cfg manager table entries limit shows clients places =
       granted = refl;
       clients = clients;
       owners = shows;
+      none = refl;
+      empty = empty;
     }
 
 -- an answer is Gone, or it is another

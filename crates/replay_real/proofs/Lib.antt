@@ -5,3 +5,4 @@ pub mod BookGrows
 pub mod Following
 pub mod Releasing
 pub mod Scripts
+pub mod Serving

@@ -10,7 +10,8 @@ use Rattle.machine.specs.declared.event.Answer.TheVariants as answer
 use Rattle.discard_book.specs.declared.entry.Entry.{Entry}
 use Rattle.discard_book.specs.declared.entry.Entry.TheVariants as entry
 use Rattle.discard_book.specs.Text.{spaced, spaced_or_dash}
-use Rattle.replay_plain.specs.Replies.{answer_text, back_answer_text, purged_text, reduced_words, removed_words, granted_words}
+use Rattle.span_heap.specs.declared.run.Run.{Run}
+use Rattle.replay_plain.specs.Replies.{answer_text, back_answer_text, purged_text, reduced_words, removed_words, granted_words, swept_words, released_words, freed_words, piece_words, run_words, runs_words}
 use Rattle.replay_real.specs.Standing.{IsOneLine, AppendsWords}
 
 both : (a b : Bool) → a ≡ false → b ≡ false → (a || b) ≡ false
@@ -103,6 +104,42 @@ removed_line count = joined (codes "removed") (spaced count) refl (spaced_line c
 
 pub granted_line : (pages : ℕ) → IsOneLine (granted_words pages)
 granted_line pages = joined (codes "granted") (spaced pages) refl (spaced_line pages)
+
+pub swept_line : (count : ℕ) → IsOneLine (swept_words count)
+swept_line count = joined (codes "swept") (spaced count) refl (spaced_line count)
+
+pub released_line : (count : ℕ) → IsOneLine (released_words count)
+released_line count = joined (codes "released") (spaced count) refl (spaced_line count)
+
+pub freed_line : (there : Bool) → IsOneLine (freed_words there)
+freed_line true = refl
+freed_line false = refl
+
+pub piece_line : (number : ℕ) (old : Bool) (run : Run) → IsOneLine (piece_words number old run)
+piece_line number old run =
+    let named = joined (codes "piece") (spaced number) refl (spaced_line number) in
+    let came = joined (codes "piece" ++ spaced number) (cond old (codes " old") (codes " new")) named (word old) in
+    let segment = joined (codes "piece" ++ spaced number ++ cond old (codes " old") (codes " new")) (spaced run.segment) came (spaced_line run.segment) in
+    let first = joined (codes "piece" ++ spaced number ++ cond old (codes " old") (codes " new") ++ spaced run.segment) (spaced run.first) segment (spaced_line run.first) in
+    joined (codes "piece" ++ spaced number ++ cond old (codes " old") (codes " new") ++ spaced run.segment ++ spaced run.first) (spaced run.pages) first (spaced_line run.pages)
+  where
+    word : (b : Bool) → IsOneLine (cond b (codes " old") (codes " new"))
+    word true = refl
+    word false = refl
+
+run_line : (run : Run) → IsOneLine (run_words run)
+run_line run =
+    let segment = joined (spaced run.segment) (codes ":") (spaced_line run.segment) refl in
+    let first = joined (spaced run.segment ++ codes ":") (decimal run.first) segment (decimal_line run.first) in
+    let plus = joined (spaced run.segment ++ codes ":" ++ decimal run.first) (codes "+") first refl in
+    joined (spaced run.segment ++ codes ":" ++ decimal run.first ++ codes "+") (decimal run.pages) plus (decimal_line run.pages)
+
+all_runs : (runs : List Run) → IsOneLine (flat_map run_words runs)
+all_runs [] = refl
+all_runs (run ∷ runs) = joined (run_words run) (flat_map run_words runs) (run_line run) (all_runs runs)
+
+pub runs_line : (runs : List Run) → IsOneLine (runs_words runs)
+runs_line runs = joined (codes "runs") (flat_map run_words runs) refl (all_runs runs)
 
 -- words without LF were appended
 pub appends : (before after words : List ℕ) → after ≡ before ++ words → IsOneLine words → AppendsWords before after

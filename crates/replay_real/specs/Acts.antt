@@ -1,5 +1,5 @@
 -- What was done at a command, whatever happened before it, and what was told of that.
-use Rattle.std.specs.Prelude.{◌≡◌, ◌≢◌, ℕ, ◌<◌, List, ◌++◌, length, drop, None, Option}
+use Rattle.std.specs.Prelude.{◌≡◌, ◌≢◌, ℕ, ◌<◌, List, ◌++◌, length, drop, None, Option, MatchBool}
 use Rattle.segment.specs.Owned.{Owned}
 use Rattle.discard_book.specs.Live.{granted}
 use Rattle.line_text.specs.declared.command.Command.{Command}
@@ -18,6 +18,7 @@ use Rattle.replay_plain.specs.Replies.{answer_text, back_answer_text, reduced_wo
 use Rattle.replay_real.specs.declared.run.RealRun.{RealRun}
 use Rattle.replay_real.specs.declared.owners.Given.{Given}
 use Rattle.replay_real.specs.Owners.{given_at, GaveUp, KeepsClients}
+use Rattle.replay_real.specs.Emptiness.{is_of_heap}
 
 -- a segment was granted, and its number told
 pub record GrantsAndTells (client pages now : ℕ) (old new : Managed) (before after : List ℕ) : Type 0 where
@@ -68,6 +69,13 @@ pub record ReturnsAndTells (id : ℕ) (table left : List Given) (old new : Manag
   pub ended : (given_at left id).owner ≡ None
   pub words : after ≡ before ++ back_answer_text (back_answer told)
 
+-- A return by number: on a segment of a client's heap it is misuse, and nothing changed.
+abbrev pub BacksAndTells : ℕ → RealRun → RealRun → List ℕ → List ℕ → Type 0
+BacksAndTells id old new before after =
+    MatchBool (is_of_heap old.heaps id)
+    ((new ≡ old) × (after ≡ before ++ answer_text answer.Misuse))
+    (ReturnsAndTells id old.owners new.owners old.state new.state before after)
+
 -- a plain segment was given up, and its block, where there was one, handed in by its client
 pub record HandsIn (client id : ℕ) (old new : RealRun) : Type 0 where
   pub told : Back
@@ -97,7 +105,8 @@ pub record RemovesAndTells (client : ℕ) (old new : RealRun) (before after : Li
   pub released : Releases client old.owners new.owners
   pub words : after ≡ before ++ removed_words removed
 
--- What was done at a command. An owner's command leaves the manager alone.
+-- What was done at a command. An owner's command leaves the manager alone. What an allocation and a
+-- release make of the book is not told here: only that it grows.
 abbrev pub Acts : Command → RealRun → RealRun → List ℕ → List ℕ → Type 0
 Acts (command.Grant client pages at) old new before after =
     GrantsAndTells client pages at old.state new.state before after
@@ -107,8 +116,7 @@ Acts (command.Write id place bytes) old new before after = new.state ≡ old.sta
 Acts (command.Read id place count) old new before after = new ≡ old
 Acts (command.Try id at) old new before after =
     TriesAndTells id at old.state new.state before after
-Acts (command.Back id) old new before after =
-    ReturnsAndTells id old.owners new.owners old.state new.state before after
+Acts (command.Back id) old new before after = BacksAndTells id old new before after
 Acts (command.Reduce limit at) old new before after =
     ReducesAndTells limit at old.state new.state before after
 Acts (command.Enforce at) old new before after =
@@ -118,5 +126,14 @@ Acts (command.Pressure critical at) old new before after =
 Acts (command.Limit limit at) old new before after =
     SetsAndTells limit at old.state new.state before after
 Acts (command.Remove client) old new before after = RemovesAndTells client old new before after
+Acts (command.Alloc client size at) old new before after = Unit {0}
+Acts (command.PieceLock piece) old new before after = new.state ≡ old.state
+Acts (command.PieceUnlock piece at) old new before after = new.state ≡ old.state
+Acts (command.PieceWrite piece place bytes) old new before after = new.state ≡ old.state
+Acts (command.PieceRead piece place count) old new before after = new ≡ old
+Acts (command.PieceFree piece at) old new before after = new.state ≡ old.state
+Acts (command.Sweep client) old new before after = new.state ≡ old.state
+Acts (command.Release client) old new before after = Unit {0}
+Acts (command.Runs client) old new before after = new ≡ old
 Acts command.Granted old new before after =
     (new ≡ old) × (after ≡ before ++ granted_words (granted old.state.entries))

@@ -1,4 +1,6 @@
 pub mod Owner
+pub mod Served
 pub mod Owners
+pub mod Emptiness
 pub mod Standing
 pub mod Acts

@@ -12,15 +12,19 @@ use Rattle.line_text.specs.declared.command.Command.{Command}
 use Rattle.line_text.specs.declared.command.Command.TheVariants.{Lock}
 use Rattle.replay_plain.specs.State.{ReplayState, grants_of, after_event}
 use Rattle.replay_plain.specs.Replies.{answer_text, answered_text}
+use Rattle.script_heaps.specs.Heaps.{no_heaps}
 use Rattle.replay_real.specs.declared.owners.Given.{Given}
+use Rattle.replay_real.specs.declared.heaps.Heaps.{Heaps}
+use Rattle.replay_real.specs.Emptiness.{AreEmpty}
 use Rattle.replay_real.specs.declared.run.RealRun.{RealRun}
 use Rattle.replay_real.specs.Owners.{given_at, ShowsEach}
 
 -- A manager's state and a table of owners stand for a state of a replay. The book's entries and
 -- the limit are those of the state. The numbers that the book drew are those of the Grants, and
 -- the table has one place more. Granted pages are told the same. Each granted segment is with the
--- client that it was granted to; it is plain, and its owner keeps what the events made of it.
-pub record StandsFor (manager : Managed) (table : List Given) (state : ReplayState) : Type 0 where
+-- client that it was granted to; it is plain, and its owner keeps what the events made of it. No
+-- client has a heap yet.
+pub record StandsFor (manager : Managed) (table : List Given) (heaps : Heaps) (state : ReplayState) : Type 0 where
   pub entries : manager.entries ≡ state.entries
   pub limit : manager.limit ≡ state.limit
   pub drawn : grants state.entries ≡ grants_of state
@@ -28,10 +32,12 @@ pub record StandsFor (manager : Managed) (table : List Given) (state : ReplaySta
   pub granted : granted_by_entries state.entries ≡ granted_by_events state.events
   pub clients : (id : ℕ) → (given_at table id).client ≡ client_of (answered state.events) id
   pub owners : ShowsEach (answered state.events) table
+  pub none : state.heaps ≡ no_heaps
+  pub empty : AreEmpty heaps
 
 -- the run stands for this state
 abbrev pub RealStandsFor : RealRun → ReplayState → Type 0
-RealStandsFor run state = StandsFor run.state run.owners state
+RealStandsFor run state = StandsFor run.state run.owners run.heaps state
 
 -- a command was answered with these words, and the run stands for this state after it
 pub record Follows (run : RealRun) (before after said : List ℕ) (state : ReplayState) : Type 0 where

@@ -157,6 +157,15 @@ impl Owners {
         Ok(())
     }
 
+    /// Adds the next number as one that no command by number reaches: it was granted to a client's heap.
+    pub(crate) fn add_nobody(&mut self) -> Result<(), NoMemory> {
+        self.given.push(Given {
+            client: 0,
+            owner: None,
+        })?;
+        Ok(())
+    }
+
     /// The client that a number was granted to, or 0.
     pub(crate) fn client(&self, id: u64) -> u32
         ensures { result ≡ (given_at self.now id).client }

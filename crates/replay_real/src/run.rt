@@ -19,8 +19,9 @@ ghost use Rattle.replay_real.specs.Standing.{RealStandsFor, Follows, LockFollows
 ghost use Rattle.replay_real.specs.Standing.{Grows};
 ghost use Rattle.replay_real.specs.Acts.{Acts, GrantsAndTells, ReducesAndTells, SetsAndTells};
 ghost use Rattle.replay_real.specs.Acts.{TriesAndTells, ReturnsAndTells, HandsIn, Releases};
-ghost use Rattle.replay_real.specs.Acts.{RemovesAndTells, try_answer, back_answer};
+ghost use Rattle.replay_real.specs.Acts.{RemovesAndTells, BacksAndTells, try_answer, back_answer};
 
+use crate::heaps::Heaps;
 use crate::owners::Owners;
 use discard_book::Entry;
 use line_text::Command;
@@ -33,12 +34,14 @@ use replay_plain::{
 use std::alloc::Global;
 use units::NoMemory;
 
-/// A run of a script on real segments: one manager's state, and the owners of the plain segments.
+/// A run of a script on real segments: one manager's state, the owners of the plain segments, and the
+/// clients with their pieces.
 /// It waits for nobody.
 #[derive(Drop)]
 pub struct RealRun {
-    state: State,
-    owners: Owners,
+    pub(crate) state: State,
+    pub(crate) owners: Owners,
+    pub(crate) heaps: Heaps,
 }
 
 impl RealRun {
@@ -50,6 +53,7 @@ impl RealRun {
         Ok(RealRun {
             state: State::new(alloc, cfg.limit, cfg.keep)?,
             owners: Owners::new(alloc)?,
+            heaps: Heaps::new(alloc, cfg.standard),
         })
     }
 
@@ -107,12 +111,31 @@ impl RealRun {
             }
             Command::Read { id, place, count } => self.read(*id, *place, *count, reply),
             Command::Try { id, at } => self.try_one(*id, *at, reply),
-            Command::Back { id } => self.back(*id, reply),
+            Command::Back { id } => self.back_numbered(*id, reply),
             Command::Reduce { limit, at } => self.reduce(alloc, *limit, *at, reply),
             Command::Enforce { at } => self.enforce(alloc, *at, reply),
             Command::Pressure { critical, at } => self.pressure(alloc, *critical, *at, reply),
             Command::Limit { limit, at } => self.limit(alloc, *limit, *at, reply),
             Command::Remove { client } => self.remove(*client as u32, reply),
+            Command::Alloc { client, size, at } => {
+                self.allocate(alloc, *client, *size, *at, reply)
+            }
+            Command::PieceLock { piece } => self.lock_piece(*piece, reply),
+            Command::PieceUnlock { piece, at } => self.unlock_piece(*piece, *at, reply),
+            Command::PieceWrite {
+                piece,
+                place,
+                bytes,
+            } => self.write_piece(*piece, *place, bytes.as_slice(), reply),
+            Command::PieceRead {
+                piece,
+                place,
+                count,
+            } => self.read_piece(*piece, *place, *count, reply),
+            Command::PieceFree { piece, at } => self.free_piece(*piece, *at, reply),
+            Command::Sweep { client } => self.swept(*client, reply),
+            Command::Release { client } => self.released(*client, reply),
+            Command::Runs { client } => self.runs(alloc, *client, reply),
             Command::Granted => self.tell_granted(reply),
         }
     }
@@ -221,6 +244,19 @@ impl RealRun {
         push_answer(reply, answer_to_try(told))
     }
 
+    /// Adds the reply to a return. On a segment of a client's heap it is misuse.
+    fn back_numbered(&mut self, id: u64, reply: &mut Vec<u8>) -> Result<(), NoMemory>
+        ensures tells { OnOk result (BacksAndTells id self.old self.new
+            reply.old.items reply.new.items) }
+        ensures words { OnOk result (AppendsWords reply.old.items reply.new.items) }
+        ensures book { Grows self.old.state.entries self.new.state.entries }
+    {
+        if self.heaps.owns(id) {
+            return push_answer(reply, Answer::Misuse);
+        }
+        self.back(id, reply)
+    }
+
     /// Adds the reply to a return. The segment is given up first, where it is plain.
     fn back(&mut self, id: u64, reply: &mut Vec<u8>) -> Result<(), NoMemory>
         ensures tells { OnOk result (ReturnsAndTells id self.old.owners self.new.owners
@@ -313,6 +349,7 @@ impl RealRun {
     {
         let removed = self.state.remove_client(client);
         self.release(client);
+        self.heaps.empty(u64::from(client), &mut self.state);
         push_removed(reply, removed)
     }
 

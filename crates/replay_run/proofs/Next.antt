@@ -1,5 +1,5 @@
 -- One command more on both runs.
-use Rattle.std.proofs.Common.{◌≡◌, ◌≢◌, ℕ, ◌+◌, Bool, true, false, ◌||◌, List, [], ◌∷◌, ◌++◌, length, take, drop, ◌-◌, Option, Some, None, refl, sym, ap, ◌∙◌, subst, arith, append_assoc, length-append}
+use Rattle.std.proofs.Common.{◌≡◌, ℕ, Bool, true, false, ◌||◌, List, [], ◌∷◌, ◌++◌, length, take, drop, ◌-◌, Some, None, refl, sym, ap, ◌∙◌, subst, arith, append_assoc, length-append}
 use Rattle.std.proofs.lemmas.Bool.{false≢true}
 use Rattle.std.proofs.lemmas.List.{take_all}
 use Rattle.discard_book.specs.declared.entry.Entry.{Entry}
@@ -8,7 +8,7 @@ use Rattle.line_text.specs.Script.{Commands}
 use Rattle.replay_plain.specs.State.{ReplayState}
 use Rattle.replay_plain.specs.Commands.{state_after, state_after_all, is_finding, has_finding, added}
 use Rattle.replay_plain.specs.Replies.{reply_of}
-use Rattle.replay_plain.specs.Records.{replies_after, record_of, record_text}
+use Rattle.replay_plain.specs.Records.{replies_after, record_text}
 use Rattle.replay_plain.specs.Run.{RunStandsFor}
 use Rattle.replay_real.specs.declared.run.RealRun.{RealRun}
 use Rattle.replay_real.specs.Standing.{RealStandsFor, IsOneLine}
@@ -17,7 +17,7 @@ use Rattle.replay_run.specs.declared.both.BothRuns.{BothRuns}
 use Rattle.replay_run.specs.Differing.{IsDiffer}
 use Rattle.replay_run.specs.declared.both.Beside.{Beside}
 use Rattle.replay_run.specs.declared.both.Beside.TheVariants.{Agrees, Differs}
-use Rattle.replay_run.specs.Both.{AgreesAt, BesideStands, BothStand, RanReal, RanBeside, Compares, GoesOn}
+use Rattle.replay_run.specs.Both.{AgreesAt, BesideStands, BothStand, RanBeside, GoesOn}
 use Rattle.replay_run.proofs.Texts.{records_differ}
 use Rattle.replay_run.proofs.Growing.{grows, drop_front}
 use Rattle.replay_run.proofs.Spoken.{reply_line}

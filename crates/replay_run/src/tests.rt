@@ -6,11 +6,22 @@ use std::test::Fail;
 /// Whether a script is run to its end with this limit, these replies are written, and the two runs
 /// do not differ.
 fn replays(alloc: Global, limit: u64, script: &str, replies: &str) -> Result<bool, Fail> {
+    replays_with(alloc, limit, 64, script, replies)
+}
+
+/// The same with segments of this standard size.
+fn replays_with(
+    alloc: Global,
+    limit: u64,
+    standard: u32,
+    script: &str,
+    replies: &str,
+) -> Result<bool, Fail> {
     let mut source = MemSource::new(alloc, script.as_bytes(), 7, &[])?;
     let mut out = MemSink::new(alloc, 300, 3, &[])?;
     let cfg = ReplayCfg {
         limit,
-        standard: 64,
+        standard,
         keep: 1,
     };
     let replayed = replay(alloc, &cfg, &mut source, &mut out);
@@ -140,6 +151,30 @@ fn pressure_reduces_by_known_use(rt: HostRuntime) -> Result<(), Fail> {
             5,
             "grant 1 1 1\ngrant 1 1 1\ngrant 1 1 1\ngrant 1 1 1\nunlock 1 0 1 4611686018427387904\nlock 1 0 1\nunlock 1 0 1 7\nunlock 2 0 1 2\nunlock 3 0 1 3\nunlock 4 0 1 4\npressure moderate 9\npressure critical 9\npressure critical 4611686018427387904\n",
             "segment 1\nsegment 2\nsegment 3\nsegment 4\nidle 4611686018427387904\nheld\nidle 4611686018427387904\nidle 2\nidle 3\nidle 4\nreduced 2 4 2 3\nreduced 1 4611686018427387904 4\nreduced 1 4611686018427387904\n",
+        )?
+    );
+    Ok(())
+}
+
+#[test]
+fn pieces_give_their_replies(rt: HostRuntime) -> Result<(), Fail> {
+    let alloc = rt.alloc();
+    assert!(rt;
+        replays_with(
+            alloc,
+            9,
+            4,
+            "alloc 1 4096 1\npunlock 1 2\nalloc 1 16384 3\npunlock 2 4\npfree 2 4\ntry 1 5\ntry 1 5\nruns 1\nalloc 1 8192 6\nruns 1\nplock 1\nalloc 1 16384 7\ngranted\n",
+            "piece 1 new 1 0 1\nidle 2\npiece 2 new 2 0 4\nidle 4\nfreed\nused 2\ntaken\nruns 1:1+3 2:0+4\npiece 3 old 2 0 2\nruns 2:2+2\ngone\npiece 4 new 3 0 4\ngranted 8\n",
+        )?
+    );
+    assert!(rt;
+        replays_with(
+            alloc,
+            9,
+            2,
+            "alloc 1 1 1\npfree 1 2\nruns 1\nrelease 1\ngranted\nalloc 1 0 3\npunlock 2 4\ntry 2 5\ntry 2 5\nsweep 1\nruns 1\npfree 2 6\n",
+            "piece 1 new 1 0 1\nfreed\nruns 1:0+2\nreleased 1\ngranted 0\npiece 2 new 2 0 1\nidle 4\nused 4\ntaken\nswept 1\nruns\ndead\n",
         )?
     );
     Ok(())

@@ -1,4 +1,4 @@
-use Rattle.std.proofs.Common.{refl, sym, subst, arith, take, All}
+use Rattle.std.proofs.Common.{subst, arith, All}
 use Rattle.std.proofs.lemmas.List.Elements.{All-more}
 use Rattle.std.proofs.lemmas.List.{take_all}
 use Rattle.replay_run.specs.Fitting.{Fits}

@@ -14,7 +14,7 @@ loop-id-preserved c =
             λ first w.
                 returns_next c.args.client first c.loop-id.self t.give_back.new.self c.loop-id.id
                 (λ state stands drawn.
-                let whole = c.next-id-end.ensures in
+                let whole = c.next-id-end.ensures.next in
                 let at = w.known.drawn in
                 let there = stands.known.drawn in
                 let more = c.loop-id-test.true in
@@ -29,7 +29,7 @@ loop-id-preserved c =
             λ first w.
                 returns_passed c.args.client first c.loop-id.self c.loop-id.id
                 (λ state stands drawn.
-                let whole = c.next-id-end.ensures in
+                let whole = c.next-id-end.ensures.next in
                 let at = w.known.drawn in
                 let there = stands.known.drawn in
                 let more = c.loop-id-test.true in
@@ -41,7 +41,7 @@ loop-id-preserved c =
 
 pub returns-clause-state : goal.returns-clause-state
 returns-clause-state c = λ first w.
-    let whole = c.next-id-end.ensures in
+    let whole = c.next-id-end.ensures.next in
     let at = w.known.drawn in
     let over = c.loop-id-test.false in
     returns_over c.args.client first c.loop-id.self c.loop-id.id (omega arith) (c.loop-id.invariant.0 first w)

@@ -5,7 +5,7 @@ use Rattle.replay_plain.proofs.run.PlainRun.purge_to.Goals as goal
 pub loop-init : goal.loop-init
 loop-init c = (
   λ first left w is.
-      let whole = c.next.ensures in
+      let whole = c.next.ensures.next in
       tries_first c.args.limit c.args.now first c.args.self.now left w (omega arith),
   omega arith,
 )

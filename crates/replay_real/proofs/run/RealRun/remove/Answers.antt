@@ -8,6 +8,8 @@ returns-clause-words c = on_ok_weaker c.push_removed.result (λ is. appends _ _ 
 
 pub returns-clause-book : goal.returns-clause-book
 returns-clause-book c =
-    grows_on c.args.self.now.state.entries c.remove_client-removed.new.self.entries c.release.new.self.state.entries
+    grows_on c.args.self.now.state.entries c.release.new.self.state.entries c.empty.new.state.entries
+    (grows_on c.args.self.now.state.entries c.remove_client-removed.new.self.entries c.release.new.self.state.entries
     (grows_removes c.args.client c.remove_client-removed.result c.args.self.now.state c.remove_client-removed.new.self c.remove_client-removed.ensures)
-    c.release.ensures.book
+    c.release.ensures.book)
+    c.empty.ensures

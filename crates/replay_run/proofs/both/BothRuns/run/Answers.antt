@@ -1,7 +1,6 @@
-use Rattle.std.proofs.Common.{◌≡◌, ◌++◌, ◌∷◌, [], ◌-◌, ℕ, List, length, drop, take, refl, sym, ap, ◌∙◌, subst, arith}
+use Rattle.std.proofs.Common.{◌++◌, ◌∷◌, [], ℕ, List, length, ap, ◌∙◌}
 use Rattle.replay_plain.specs.Commands.{state_after, state_after_all, added}
 use Rattle.replay_plain.specs.Replies.{reply_of}
-use Rattle.replay_run.specs.Both.{BothStand}
 use Rattle.replay_run.proofs.Growing.{grows}
 use Rattle.replay_run.proofs.Next.{both_next, beside_next, part_behind}
 use Rattle.replay_run.proofs.both.BothRuns.run.Goals as goal

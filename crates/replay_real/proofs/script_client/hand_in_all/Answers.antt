@@ -1,0 +1,18 @@
+use Rattle.std.proofs.Common.{length, refl, ap, arith}
+use Rattle.replay_real.proofs.BookGrows.{grows_same, grows_on}
+use Rattle.replay_real.proofs.script_client.hand_in_all.Goals as goal
+
+pub hand_back-requires-clause-taken : goal.hand_back-requires-clause-taken
+hand_back-requires-clause-taken c = let taken = c.in-Some.ensures.taken.taken in omega arith
+
+pub loop-side-init : goal.loop-side-init
+loop-side-init c = grows_same _ _ refl
+
+pub loop-side-preserved : goal.loop-side-preserved
+loop-side-preserved c = grows_on _ c.loop-side.state.entries _ c.loop-side.invariant c.hand_back.ensures.book
+
+pub loop-side-smaller : goal.loop-side-smaller
+loop-side-smaller c =
+    let fewer = c.in-Some.ensures.taken.leaves.fewer in
+    let same = ap length c.hand_back.ensures.leases in
+    omega arith

@@ -1,0 +1,9 @@
+use Rattle.std.proofs.Common.{length}
+use Rattle.replay_real.specs.Standing.{Grows}
+use Rattle.replay_real.proofs.script_client.hand_in_all.Given as goal
+
+abbrev pub invariant-loop-side : goal.invariant-loop-side
+invariant-loop-side l = Grows l.fn.state.entries l.state.entries
+
+abbrev pub decreases-loop-side : goal.decreases-loop-side
+decreases-loop-side l = length l.client.leases
