@@ -1,0 +1,5 @@
+pub mod ListsGrow
+pub mod NumbersDrawnOnce
+pub mod RepliesWait
+pub mod WhatIsLive
+pub mod RunServed

@@ -1,0 +1,141 @@
+-- What a run comes to, of what its workers ended with and of the removal of its clients.
+use Rattle.std.proofs.Common.{◌≡◌, ℕ, ◌+◌, ◌-◌, ◌≤◌, Bool, true, false, ◌&&◌, cond, List, [], ◌∷◌, ◌++◌, map, length, All, refl, sym, ap, ◌∙◌, subst, arith, append_assoc}
+use Rattle.std.specs.List.{count_by}
+use Rattle.std.proofs.lemmas.List.Sums.{sum_by-append}
+use Rattle.discard_book.specs.declared.entry.Entry.{Entry}
+use Rattle.discard_book.specs.declared.entry.Entry.TheVariants as entry
+use Rattle.discard_book.specs.Live.{is_grant}
+use Rattle.request_text.specs.declared.request.Request.{Request}
+use Rattle.request_text.specs.Requests.{IsRequest, AreRequests}
+use Rattle.tile_source.specs.Tile.{reply}
+use Rattle.manager_state.specs.Managed.{Managed}
+use Rattle.manager.specs.Tokens.{Tokens}
+use Rattle.manager.specs.Grows.{carries, is_round, all_carry, Grows}
+use Rattle.serve_plain.specs.Reply.{tiles_of}
+use Rattle.serve_session.specs.declared.served.ServedClient.{ServedClient}
+use Rattle.serve_session.specs.Running.{RunValue}
+use Rattle.serve_session.specs.Tiling.{TilingValue, replies_to}
+use Rattle.serve_session.specs.Served.{AreServed, all_grants}
+use Rattle.serve_run.specs.Removing.{GainsBacks, RemovesAll}
+use Rattle.serve_run.specs.Gathering.{AreOf, Answer}
+use Rattle.serve_run.specs.Working.{HasTaken}
+use Rattle.serve_run.specs.Served.{Serves}
+
+count_by-append : (test : Entry → Bool) (xs ys : List Entry) → count_by test (xs ++ ys) ≡ count_by test xs + count_by test ys
+count_by-append test xs ys = sum_by-append (λ (e : Entry). cond (test e) 1 0) xs ys
+
+all_carry-append : (limit : ℕ) (xs ys : List Entry) → all_carry limit xs ≡ true → all_carry limit ys ≡ true → all_carry limit (xs ++ ys) ≡ true
+all_carry-append limit [] ys first second = second
+all_carry-append limit (x ∷ xs) ys first second =
+    elim (carries limit x) as (λ b. (b && all_carry limit xs) ≡ true → (b && all_carry limit (xs ++ ys)) ≡ true)
+    [ true ↦ λ rest. all_carry-append limit xs ys rest second | false ↦ λ none. none ]
+    first
+
+backs_carry : (limit : ℕ) (ids : List ℕ) → all_carry limit (map entry.Back ids) ≡ true
+backs_carry limit [] = refl
+backs_carry limit (id ∷ ids) = backs_carry limit ids
+
+zero_more : (n : ℕ) → 0 + n ≡ n
+zero_more n = omega arith
+
+-- no Back passes such a test
+backs_count : (test : Entry → Bool) (none : (id : ℕ) → test (entry.Back id) ≡ false) (ids : List ℕ) → count_by test (map entry.Back ids) ≡ 0
+backs_count test none [] = refl
+backs_count test none (id ∷ ids) = let rest : List Entry = map entry.Back ids in
+    count_by-append test (entry.Back id ∷ []) rest ∙ ap (λ (b : Bool). (0 + cond {A = ℕ} b 1 0) + count_by test rest) (none id) ∙ zero_more (count_by test rest) ∙ backs_count test none ids
+
+-- A book that grew has grown so too where it gained Backs.
+grows_backs : (limit a b : ℕ) (ids : List ℕ) (xs ys zs : List Entry) → Grows limit a b xs ys → GainsBacks ids ys zs → Grows limit a b xs zs
+grows_backs limit a b ids xs ys zs grown gained =
+    let backs : List Entry = map entry.Back ids in
+    record {
+      more = grown.more ++ backs;
+      follows = gained ∙ ap (λ (es : List Entry). es ++ backs) grown.follows ∙ append_assoc xs grown.more backs;
+      carry = all_carry-append limit grown.more backs grown.carry (backs_carry limit ids);
+      granted_is = omega (arith, count_by-append is_grant grown.more backs, backs_count is_grant (λ id. refl) ids, grown.granted_is);
+      rounds_are = omega (arith, count_by-append (is_round limit) grown.more backs, backs_count (is_round limit) (λ id. refl) ids, grown.rounds_are);
+    }
+
+grows_is : (l m a b p q : ℕ) (xs ws ys : List Entry) → Grows l a b xs ys → l ≡ m → a ≡ p → b ≡ q → xs ≡ ws → Grows m p q ws ys
+grows_is l m a b p q xs ws ys grown limit_is granted_is rounds_are before =
+    record {
+      more = grown.more;
+      follows = grown.follows ∙ ap (λ (es : List Entry). es ++ grown.more) before;
+      carry = subst (λ (n : ℕ). all_carry n grown.more ≡ true) limit_is grown.carry;
+      granted_is = grown.granted_is ∙ granted_is;
+      rounds_are = subst (λ (n : ℕ). q ≤ count_by (is_round n) grown.more) limit_is (subst (λ (n : ℕ). n ≤ count_by (is_round l) grown.more) rounds_are grown.rounds_are);
+    }
+
+-- the requests of a run are of its clients
+of_clients : (clients : ℕ) (requests : List Request) → All (IsRequest clients) requests → AreOf clients requests
+of_clients clients requests each = λ k d within. let given = each k d within in (given.0, given.1)
+
+-- What the workers of all clients ended with is known of the requests that are gathered: they are of the clients that have a block.
+pub known_of : {B : Type 0} (bytes : B → List ℕ) (run : RunValue) (start now : Tokens) (blocks bs : List B) (clients : List ServedClient) (rs us : List Request)
+    → HasTaken bytes run run.cfg.clients start now blocks clients → bs ≡ blocks → rs ≡ us → us ≡ run.requests
+    → AreRequests run.cfg.clients run.requests → AreOf (length bs) rs
+known_of {B} bytes run start now blocks bs clients rs us taken blocks_are slice_is requests_are lawful =
+    subst (λ (xs : List B). AreOf (length xs) rs) (sym blocks_are)
+    (subst (λ (k : ℕ). AreOf k rs) (sym taken.blocks_are)
+    (subst (λ (xs : List Request). AreOf run.cfg.clients xs) (sym (slice_is ∙ requests_are)) (of_clients run.cfg.clients run.requests lawful.each)))
+
+-- and the block of each client has the replies to its requests
+pub answers_of : {B : Type 0} (bytes : B → List ℕ) (run : RunValue) (start now : Tokens) (blocks bs : List B) (clients : List ServedClient) (rs us : List Request) (t : TilingValue)
+    → HasTaken bytes run run.cfg.clients start now blocks clients → bs ≡ blocks → rs ≡ us → us ≡ run.requests → t ≡ run.tiling
+    → Answer bytes t rs bs
+answers_of {B} bytes run start now blocks bs clients rs us t taken blocks_are slice_is requests_are tiling_is =
+    subst (λ (xs : List B). Answer bytes t rs xs) (sym blocks_are)
+    (subst (λ (xs : List Request). Answer bytes t xs blocks) (sym (slice_is ∙ requests_are))
+    (subst (λ (v : TilingValue). Answer bytes v run.requests blocks) (sym tiling_is)
+    (λ c d within. taken.answer c d (omega (arith, within, taken.blocks_are)))))
+
+-- what was gathered are the replies to the run's requests
+pub gathered : (t s : TilingValue) (rs us requests : List Request) (out made : List ℕ)
+    → out ≡ made → made ≡ replies_to t (tiles_of rs) → t ≡ s → rs ≡ us → us ≡ requests → out ≡ replies_to s (tiles_of requests)
+gathered t s rs us requests out made out_is made_is tiling_is slice_is requests_are =
+    out_is ∙ made_is ∙ ap (λ (v : TilingValue). replies_to v (tiles_of rs)) tiling_is ∙ ap (λ (xs : List Request). replies_to s (tiles_of xs)) (slice_is ∙ requests_are)
+
+-- The run was served: its clients by their workers, and nothing is granted once all clients are removed.
+pub run_served : {B : Type 0} (bytes : B → List ℕ) (run : RunValue) (start shares : Tokens) (blocks : List B) (clients : List ServedClient)
+    (limit : ℕ) (handed : List Entry) (finished ended : Managed) (replies : List ℕ) (ends : List ServedClient)
+    → HasTaken bytes run run.cfg.clients start shares blocks clients
+    → start.grants ≡ 0 → start.rounds ≡ run.cfg.rounds
+    → run.tiling.side ≡ run.cfg.side
+    → limit ≡ run.cfg.limit → handed ≡ []
+    → finished.limit ≡ limit → Grows limit shares.grants shares.rounds handed finished.entries
+    → RemovesAll finished ended
+    → replies ≡ replies_to run.tiling (tiles_of run.requests)
+    → ends ≡ clients
+    → Serves run.cfg run.tiling.image run.requests (record { replies = replies; clients = ends; state = ended })
+run_served bytes run start shares blocks clients limit handed finished ended replies ends taken no_grants all_rounds side limit_is handed_is limited grown removed replies_are ends_are =
+    record {
+      replies = replies_are ∙ ap (λ (n : ℕ). reply run.tiling.image n (tiles_of run.requests)) side;
+      clients = subst (λ (cs : List ServedClient). AreServed run.cfg run.requests cs) (sym ends_are) (record { all = taken.clients_are; each = taken.served });
+      limit = removed.limit ∙ limited ∙ limit_is;
+      legal = removed.legal;
+      grown = subst (λ (cs : List ServedClient). Grows run.cfg.limit (all_grants cs) run.cfg.rounds [] ended.entries) (sym ends_are)
+          (grows_is limit run.cfg.limit shares.grants shares.rounds (all_grants clients) run.cfg.rounds handed [] ended.entries
+          (grows_backs limit shares.grants shares.rounds removed.ids handed finished.entries ended.entries grown removed.backs)
+          limit_is
+          (taken.grants ∙ ap (λ (n : ℕ). n + all_grants clients) no_grants ∙ zero_more (all_grants clients))
+          (taken.rounds ∙ all_rounds)
+          handed_is);
+      none = removed.none;
+      once = removed.once;
+    }
+
+-- what was taken in of all clients, when the shares before were all but theirs
+pub taken_from : {B : Type 0} (bytes : B → List ℕ) (run : RunValue) (n whole : ℕ) (start now : Tokens) (blocks : List B) (clients : List ServedClient)
+    → HasTaken bytes run n start now blocks clients → start.parts + n ≡ whole → start.grants ≡ 0 → start.rounds ≡ run.cfg.rounds
+    → HasTaken bytes run n (record { parts = whole - n; grants = 0; rounds = run.cfg.rounds }) now blocks clients
+taken_from bytes run n whole start now blocks clients taken parts_are no_grants all_rounds =
+    record {
+      blocks_are = taken.blocks_are;
+      clients_are = taken.clients_are;
+      answer = taken.answer;
+      served = taken.served;
+      parts = omega (arith, taken.parts, parts_are);
+      grants = omega (arith, taken.grants, no_grants);
+      few = taken.few;
+      rounds = taken.rounds ∙ all_rounds;
+    }
