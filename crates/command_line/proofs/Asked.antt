@@ -1,12 +1,11 @@
 -- Values that begin with `-` are no numbers, and what the words of a command ask for.
-use Rattle.std.proofs.Common.{◌≡◌, ◌⊎◌, inl, inr, ℕ, ◌==◌, ◌||◌, Bool, true, false, cond, List, [], ◌∷◌, map, Option, Some, None, is_some, refl, sym, ap, ◌∙◌, subst, bytes_eq, nat_eq, eqb-true, true≢false, length, suc, ◌<◌, ◌≤◌, arith, option_map, slice_index_or, Bor}
+use Rattle.std.proofs.Common.{◌≡◌, ◌⊎◌, inl, inr, ℕ, ◌||◌, Bool, true, false, List, [], ◌∷◌, map, Option, Some, None, is_some, refl, sym, ap, ◌∙◌, subst, bytes_eq, eqb-true, true≢false, length, ◌<◌, ◌≤◌, arith, option_map, slice_index_or, Bor}
 use Rattle.std.specs.List.{list_any}
 use Rattle.line_text.specs.Number.{number_in}
 use Rattle.tile_source.specs.declared.limits.TheConstants.{MOST_ZOOM, LAST_TILE}
 use Rattle.std.proofs.lemmas.Option.{none-some}
-use Rattle.std.proofs.lemmas.Bool.Decides.{nat_tests}
 use Rattle.command_line.specs.Words.{GivenWords, is_dashed, place_in, texts_of, value_of}
-use Rattle.command_line.specs.Settings.{SettingValue, clients_setting, entries_setting, keep_setting, number_or, replay_limit, rounds_setting, serve_limit, set_to, side_setting, standard_setting}
+use Rattle.command_line.specs.Settings.{SettingValue, clients_setting, entries_setting, keep_setting, replay_limit, rounds_setting, serve_limit, set_to, side_setting, standard_setting}
 use Rattle.command_line.specs.Commands.{◌>>=◌, gen_of, gen_options, named, replay_of, replay_options, serve_cfg, serve_of, serve_options, side_of, tile_of, tile_options}
 use Rattle.command_line.specs.ClapWords.{HasDashedValue, MayBeRefused, if_any}
 use Rattle.command_line.proofs.Options.{any_position, one_text}
@@ -82,14 +81,15 @@ no_cfg given (inr (inr (inr (inr (inr (inr (inr u))))))) = absurd u
 
 pub replay_refused : (said : Option GivenWords) → MayBeRefused replay_options said → (said >>= replay_of) ≡ None
 replay_refused said (inl none) = rw none refl
-replay_refused said (inr dashed) = rw dashed.is (by dashed.given.positional refl (unset (replay_limit ∷ keep_setting ∷ []) said dashed))
+replay_refused said (inr dashed) = rw dashed.is (by dashed.given.positional refl (unset (replay_limit ∷ standard_setting ∷ keep_setting ∷ []) said dashed))
   where
-    by : (words : List (List ℕ)) → dashed.given.positional ≡ words → OneUnset dashed.given (replay_limit ∷ keep_setting ∷ []) → replay_of dashed.given ≡ None
+    by : (words : List (List ℕ)) → dashed.given.positional ≡ words → OneUnset dashed.given (replay_limit ∷ standard_setting ∷ keep_setting ∷ []) → replay_of dashed.given ≡ None
     by (word ∷ words) is u = rw is refl
     by [] is (inl u) = rw is (ends_now (set_to replay_limit dashed.given) _ u)
-    by [] is (inr (inl u)) =
+    by [] is (inr (inl u)) = rw is (ends_all (set_to replay_limit dashed.given) _ (λ limit. ends_now (set_to standard_setting dashed.given) _ u))
+    by [] is (inr (inr (inl u))) =
         rw is (ends_all (set_to replay_limit dashed.given) _ (λ limit. ends_all (set_to standard_setting dashed.given) _ (λ standard. ends_now (set_to keep_setting dashed.given) _ u)))
-    by [] is (inr (inr u)) = absurd u
+    by [] is (inr (inr (inr u))) = absurd u
 
 pub tile_refused : (said : Option GivenWords) → MayBeRefused tile_options said → (said >>= tile_of) ≡ None
 tile_refused said (inl none) = rw none refl

@@ -1,14 +1,13 @@
 -- A walk by `clap` over all words ends as the grammar says.
-use Rattle.std.proofs.Common.{◌≡◌, ◌⊎◌, inl, inr, ℕ, Bool, true, false, ◌||◌, List, [], ◌∷◌, ◌++◌, Option, Some, None, is_some, refl, sym, ap, ◌∙◌, subst, bytes_eq, true≢false}
+use Rattle.std.proofs.Common.{◌≡◌, ◌⊎◌, inl, inr, ℕ, Bool, true, false, ◌||◌, List, [], ◌∷◌, Option, Some, None, is_some, refl, sym, ap, ◌∙◌, subst, bytes_eq, true≢false}
 use Rattle.std.specs.List.{fold}
 use Rattle.std.specs.Str.{IsUtf8}
 use Rattle.std.proofs.lemmas.Bool.{false_from_ne_true}
 use Rattle.clap.specs.Walk.{Row, Waiting, Walk, idle, option, positional, has_row, reading_by, settled_rows, used, walked}
 use Rattle.clap.specs.Kinds.{Kinds, or_else}
 use Rattle.clap.specs.Faults.{settle_fault, use_fault, walk_fault}
-use Rattle.clap.specs.declared.error.kind.ErrorKind.TheVariants as kind
-use Rattle.command_line.specs.Words.{GivenWords, given_from, has_option, is_dashed, only_positional, place_in, value_of, with_option, with_positional, words_given}
-use Rattle.command_line.specs.ClapWords.{Gives, HoldGiven, MayBeRefused, positional_id}
+use Rattle.command_line.specs.Words.{GivenWords, given_from, only_positional, place_in, value_of, with_option, words_given}
+use Rattle.command_line.specs.ClapWords.{Gives, MayBeRefused, positional_id}
 use Rattle.command_line.proofs.Options.{none_of, one_text}
 use Rattle.command_line.proofs.Rows.{option_more, positional_more, row_of_option}
 use Rattle.command_line.proofs.Sorts as sort

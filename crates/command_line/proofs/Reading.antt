@@ -1,9 +1,9 @@
 -- What is read so far and what is left give what all words give.
-use Rattle.std.proofs.Common.{◌≡◌, ◌⊎◌, inl, inr, ℕ, Bool, true, false, List, [], ◌∷◌, ◌++◌, Option, Some, None, is_some, option_map, refl, sym, ap, ◌∙◌, append_assoc, cond}
+use Rattle.std.proofs.Common.{◌≡◌, inl, inr, ℕ, Bool, true, false, List, [], ◌∷◌, ◌++◌, Option, Some, None, is_some, option_map, refl, sym, ap, ◌∙◌, append_assoc}
 use Rattle.std.proofs.lemmas.List.{append-nil}
 use Rattle.clap.specs.Walk.{Row}
 use Rattle.command_line.specs.Words.{GivenWords, only_positional, with_positional, with_option, given_from, words_given, stand_once, has_option, value_of, place_in, is_dashed}
-use Rattle.command_line.specs.ClapWords.{HoldGiven, Gives, MayBeRefused, HasDashedValue}
+use Rattle.command_line.specs.ClapWords.{HoldGiven, Gives, MayBeRefused}
 use Rattle.command_line.proofs.Options.{once_more, once_twice, value_behind, same_text}
 use Rattle.command_line.proofs.Rows.{nothing_given}
 

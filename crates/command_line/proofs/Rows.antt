@@ -2,7 +2,7 @@
 use Rattle.std.proofs.Common.{◌≡◌, ℕ, Bool, true, false, ◌||◌, cond, List, [], ◌∷◌, ◌++◌, Option, Some, None, is_some, option_map, refl, sym, ap, ◌∙◌, subst, bytes_eq}
 use Rattle.std.specs.List.{find}
 use Rattle.std.proofs.lemmas.Bool.{true≢false}
-use Rattle.clap.specs.Walk.{Row, Text, all_of, at_row, has_row, more_values, with_values, without}
+use Rattle.clap.specs.Walk.{Row, Text, all_of, has_row, with_values, without}
 use Rattle.clap.specs.declared.builder.value_parser.Reading.{Reading}
 use Rattle.clap.specs.declared.parser.matches.ValueSource.TheVariants.{CommandLine}
 use Rattle.command_line.specs.Words.{GivenWords, only_positional, value_of, has_option}

@@ -1,10 +1,9 @@
 -- The arguments of a command, once `clap` has built it.
-use Rattle.std.proofs.Common.{◌≡◌, ℕ, Bool, true, false, ◌&&◌, ◌||◌, cond, List, [], ◌∷◌, map, Option, Some, None, is_some, refl, sym, ap, ◌∙◌, bytes_eq, codes}
+use Rattle.std.proofs.Common.{◌≡◌, ℕ, Bool, true, false, ◌||◌, cond, List, [], ◌∷◌, map, Some, None, is_some, refl, sym, ap, ◌∙◌, bytes_eq, codes}
 use Rattle.std.specs.List.{find, list_any}
 use Rattle.clap.specs.Walk.{Rule, Row, arg_by_id, arg_by_index, arg_by_long, arg_by_short, has_row}
 use Rattle.clap.specs.Simple.{App, Shape, built, filled, filled_from, index_after, new_shape, with_index}
-use Rattle.clap.specs.Kinds.{Kinds}
-use Rattle.clap.specs.Faults.{defaults_fault, use_fault, check_fault, is_simple_and_free}
+use Rattle.clap.specs.Faults.{use_fault}
 use Rattle.clap.specs.declared.error.kind.ErrorKind.TheVariants as kind
 use Rattle.command_line.specs.Words.{place_in}
 use Rattle.command_line.specs.ClapWords.{option_rule, positional_id, positional_rule, simple_app}

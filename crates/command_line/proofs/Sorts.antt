@@ -1,15 +1,15 @@
 -- What a word is, for `clap` and for the grammar.
-use Rattle.std.proofs.Common.{◌≡◌, ◌⊎◌, inl, inr, ℕ, ◌==◌, ◌||◌, Bool, true, false, cond, List, [], ◌∷◌, ◌++◌, Option, Some, None, is_some, refl, sym, ap, ◌∙◌, subst, bytes_eq, codes, nat_eq, eqb-true, arith}
+use Rattle.std.proofs.Common.{◌≡◌, ◌⊎◌, inl, inr, ℕ, Bool, true, false, List, [], ◌∷◌, Option, Some, None, is_some, refl, sym, ap, ◌∙◌, subst, nat_eq, eqb-true, arith}
 use Rattle.std.specs.Char.{encode_utf8}
 use Rattle.std.specs.Prelude.{slice_get}
-use Rattle.std.specs.List.{before_first, after_first, list_any, position}
+use Rattle.std.specs.List.{before_first, after_first, position}
 use Rattle.std.specs.Str.{IsUtf8, chars, encode_utf8_all}
 use Rattle.std.proofs.lemmas.Str.{chars-encodes}
 use Rattle.std.proofs.lemmas.Bool.{true≢false}
 use Rattle.std.proofs.lemmas.Bool.Decides.{nat_tests}
 use Rattle.clap.specs.Lexer.{has_byte, long_of, short_of}
-use Rattle.command_line.specs.Words.{given_from, has_value, is_dashed, is_end, is_equals, name_in, only_positional, place_in, value_in, with_option, with_positional}
-use Rattle.command_line.proofs.Options.{any_position, one_text}
+use Rattle.command_line.specs.Words.{given_from, is_dashed, is_end, is_equals, name_in, only_positional, place_in, with_option, with_positional}
+use Rattle.command_line.proofs.Options.{any_position}
 
 pub data Sort (names : List (List ℕ)) (word : List ℕ) : Type 0 where
   ends : is_end word ≡ true → is_dashed word ≡ true → ((rest : List (List ℕ)) → given_from names None (word ∷ rest) ≡ Some (only_positional rest)) → Sort names word

@@ -1,16 +1,15 @@
 -- One word of a walk by `clap`.
-use Rattle.std.proofs.Common.{◌≡◌, ℕ, Bool, true, false, ◌&&◌, ◌||◌, cond, List, [], ◌∷◌, ◌++◌, Option, Some, None, is_some, refl, sym, ap, ◌∙◌, bytes_eq, nat_lt, length, true≢false}
+use Rattle.std.proofs.Common.{◌≡◌, ℕ, Bool, true, false, ◌&&◌, ◌||◌, List, [], ◌∷◌, Option, Some, None, is_some, refl, sym, ◌∙◌, bytes_eq, true≢false}
 use Rattle.std.specs.Prelude.{slice_get}
 use Rattle.std.specs.Str.{chars}
 use Rattle.clap.specs.Lexer.{long_of, short_of}
-use Rattle.clap.specs.Walk.{Held, Row, Rule, Step, Text, Waiting, Walk, idle, option, positional, next, trailing, value, option_met, settled_rows, subcommand_met, used, walked, word_met}
+use Rattle.clap.specs.Walk.{Held, Row, Text, Waiting, Walk, idle, option, positional, settled_rows, subcommand_met, used, walked}
 use Rattle.clap.specs.Kinds.{Kinds, or_else}
 use Rattle.clap.specs.Faults.{flags_fault, settle_fault, turn_fault, use_fault}
-use Rattle.clap.specs.declared.error.kind.ErrorKind.TheVariants as kind
 use Rattle.command_line.specs.Words.{is_end, place_in}
 use Rattle.command_line.specs.ClapWords.{positional_id}
 use Rattle.command_line.proofs.Options.{same_text}
-use Rattle.command_line.proofs.Rules.{by_id, by_index, by_long, by_no_long, by_short, filled_option, filled_positional, rules_for, shape_for}
+use Rattle.command_line.proofs.Rules.{by_id, by_index, by_long, by_no_long, by_short, filled_option, rules_for, shape_for}
 
 abbrev pub Pending : Type 0
 Pending = Option (Text × List Text)

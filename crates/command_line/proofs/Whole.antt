@@ -1,11 +1,10 @@
 -- A parse by `clap` of the command for some options.
-use Rattle.std.proofs.Common.{◌≡◌, ◌≢◌, ◌⊎◌, inl, inr, ℕ, ◌+◌, Bool, true, false, ◌&&◌, ◌||◌, not, cond, List, [], ◌∷◌, map, Option, Some, None, Result, Ok, Err, is_some, refl, sym, ap, ◌∙◌, subst, bytes_eq, true≢false, arith, nat_lt}
-use Rattle.std.specs.List.{find, fold, list_all, list_any, count_by}
-use Rattle.std.specs.Option.{option_map_or}
+use Rattle.std.proofs.Common.{◌≡◌, ◌≢◌, inl, inr, ℕ, ◌+◌, Bool, true, false, ◌&&◌, ◌||◌, not, cond, List, [], ◌∷◌, map, Option, Some, None, is_some, refl, sym, ap, ◌∙◌, subst, true≢false, arith}
+use Rattle.std.specs.List.{fold, list_all, list_any, count_by}
 use Rattle.clap.specs.Walk.{Names, Row, Rule, Text, Held, idle, finished, has_row, is_early_multiple, nothing_held, walk, walk_from, walked, with_default, rows_of}
 use Rattle.clap.specs.Simple.{App, Shape, built, entered, is_buildable, is_ready, is_ready_leaf, is_simple, matches_of, HasMatchesOf}
-use Rattle.clap.specs.Kinds.{FailsBy, HasKind, IsAmong, Kinds, or_else}
-use Rattle.clap.specs.Faults.{built_fault, check_fault, default_fault, defaults_fault, entered_fault, fault_of, is_free_app, is_simple_and_free, settle_fault, walk_fault}
+use Rattle.clap.specs.Kinds.{HasKind, IsAmong, Kinds}
+use Rattle.clap.specs.Faults.{built_fault, check_fault, defaults_fault, entered_fault, fault_of, is_free_app, is_simple_and_free}
 use Rattle.clap.specs.Takes.{is_given}
 use Rattle.clap.specs.declared.error.kind.ErrorKind.{ErrorKind}
 use Rattle.std.specs.Prelude.{String}
@@ -15,9 +14,9 @@ use Rattle.clap.specs.Values.{kind_of}
 use Rattle.clap.specs.declared.error.Error.{Error}
 use Rattle.clap.specs.declared.error.kind.ErrorKind.TheVariants.{OutOfMemory}
 use Rattle.clap.specs.declared.parser.matches.ArgMatches.{ArgMatches}
-use Rattle.command_line.specs.Words.{GivenWords, place_in, texts, words_given}
-use Rattle.command_line.specs.ClapWords.{Gives, MayBeRefused, option_rule, positional_id, positional_rule, simple_app}
-use Rattle.command_line.proofs.Rules.{built_is, filled_option, filled_positional, rules_for, shape_for}
+use Rattle.command_line.specs.Words.{place_in, texts, words_given}
+use Rattle.command_line.specs.ClapWords.{Gives, MayBeRefused, option_rule, positional_id, simple_app}
+use Rattle.command_line.proofs.Rules.{built_is, filled_option, rules_for, shape_for}
 use Rattle.command_line.proofs.Steps.{at, fails, or_nothing}
 use Rattle.command_line.proofs.Ends.{AllText, Ends, rows_end, total, walk_ends}
 

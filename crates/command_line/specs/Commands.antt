@@ -32,9 +32,9 @@ side_of given = set_to side_setting given >>= allowed_side
 
 -- ---- replay
 
--- its options; `--standard` is not built yet
+-- its options
 abbrev pub replay_options : List (List ℕ)
-replay_options = replay_limit.name ∷ keep_setting.name ∷ []
+replay_options = replay_limit.name ∷ standard_setting.name ∷ keep_setting.name ∷ []
 
 -- it has no positional word
 abbrev pub replay_of : GivenWords → Option OrderValue
@@ -129,11 +129,12 @@ serve_order words = words_given serve_options words >>= serve_of
 abbrev pub gen_order : List (List ℕ) → Option OrderValue
 gen_order words = words_given gen_options words >>= gen_of
 
--- What the words of the command line ask for, or None where they are not lawful: the first word is the command. The commands
--- here are those that are built.
+-- what the words of the command line ask for, or None where they are not lawful: the first word is the command
 abbrev pub order_of : List (List ℕ) → Option OrderValue
 order_of [] = None
 order_of (command ∷ words) =
     if bytes_eq command (codes "replay") then replay_order words
     else if bytes_eq command (codes "tile") then tile_order words
+    else if bytes_eq command (codes "serve") then serve_order words
+    else if bytes_eq command (codes "gen") then gen_order words
     else None

@@ -1,5 +1,5 @@
 -- How the code has what the words ask for.
-use Rattle.std.specs.Prelude.{◌≡◌, ℕ, ◌≤◌}
+use Rattle.std.specs.Prelude.{◌≤◌}
 use Rattle.line_text.specs.declared.limits.TheConstants.{MOST_LIMIT}
 use Rattle.replay_plain.specs.declared.config.ReplayCfg.{ReplayCfg}
 use Rattle.serve_plain.specs.declared.limits.TheConstants.{MOST_STANDARD, MOST_KEPT}
@@ -34,10 +34,3 @@ IsLawful (order.Replay cfg) = IsReplayCfg cfg
 IsLawful (order.Tile file tile side) = IsTile tile × IsSide side
 IsLawful (order.Serve file cfg) = IsServeCfg cfg
 IsLawful (order.Gen n) = n ≤ 999999
-
--- it can be done as it is asked for; `serve` and `gen` are not built yet
-abbrev pub CanBeDone : Order → Type 0
-CanBeDone (order.Replay cfg) = IsReplayCfg cfg
-CanBeDone (order.Tile file tile side) = IsTile tile × IsSide side
-CanBeDone (order.Serve file cfg) = ⊥
-CanBeDone (order.Gen n) = ⊥

@@ -6,7 +6,7 @@ ghost use Rattle.serve_plain.specs.Config.{IsSide, IsServeCfg};
 ghost use Rattle.command_line.specs.Words.{GivenWords, texts};
 ghost use Rattle.command_line.specs.ClapWords.{IsGiven};
 ghost use Rattle.command_line.specs.Commands.{order_of, replay_order, replay_of, tile_order, tile_of, serve_order, serve_of, serve_cfg, gen_order, gen_of, named, side_of};
-ghost use Rattle.command_line.specs.Orders.{order_value, IsLawful, CanBeDone};
+ghost use Rattle.command_line.specs.Orders.{order_value, IsLawful};
 
 use crate::clap_words::{positional, read, set_to};
 use crate::order::Order;
@@ -25,11 +25,11 @@ use units::NoMemory;
 const MOST_DRAWN: u32 = 999_999;
 
 /// What the words of the command line ask for, of which the first is the command. None comes exactly
-/// where they are not lawful. A command that is not built yet is none.
+/// where they are not lawful.
 pub fn order_of<'a>(alloc: Global, words: &'a [String]) -> Result<Option<Order<'a>>, NoMemory>
     ensures value { IfOk result (λ order.
         option_map order_value order ≡ order_of (texts words.entry.now)) }
-    ensures lawful { IfOk result (λ order. IfSome order CanBeDone) }
+    ensures lawful { IfOk result (λ order. IfSome order IsLawful) }
 {
     let Some((command, words)) = words.split_first() else {
         return Ok(None);
@@ -41,6 +41,12 @@ pub fn order_of<'a>(alloc: Global, words: &'a [String]) -> Result<Option<Order<'
     if command == "tile" {
         return tile_order(alloc, words);
     }
+    if command == "serve" {
+        return serve_order(alloc, words);
+    }
+    if command == "gen" {
+        return gen_order(alloc, words);
+    }
     Ok(None)
 }
 
@@ -48,9 +54,9 @@ pub fn order_of<'a>(alloc: Global, words: &'a [String]) -> Result<Option<Order<'
 fn replay_order<'a>(alloc: Global, words: &'a [String]) -> Result<Option<Order<'a>>, NoMemory>
     ensures value { IfOk result (λ order.
         option_map order_value order ≡ replay_order (texts words.entry.now)) }
-    ensures lawful { IfOk result (λ order. IfSome order CanBeDone) }
+    ensures lawful { IfOk result (λ order. IfSome order IsLawful) }
 {
-    match read(alloc, &[REPLAY_LIMIT.name, KEEP.name], words)? {
+    match read(alloc, &[REPLAY_LIMIT.name, STANDARD.name, KEEP.name], words)? {
         Some(given) => Ok(replay_of(&given)),
         None => Ok(None),
     }
@@ -59,7 +65,7 @@ fn replay_order<'a>(alloc: Global, words: &'a [String]) -> Result<Option<Order<'
 fn replay_of<'a>(given: &ArgMatches<'a>) -> Option<Order<'a>>
     ensures value { (all : GivenWords) → IsGiven given.now all
         → option_map order_value result ≡ replay_of all }
-    ensures lawful { IfSome result CanBeDone }
+    ensures lawful { IfSome result IsLawful }
 {
     if positional(given).is_some() {
         return None;
@@ -78,7 +84,7 @@ fn replay_of<'a>(given: &ArgMatches<'a>) -> Option<Order<'a>>
 fn tile_order<'a>(alloc: Global, words: &'a [String]) -> Result<Option<Order<'a>>, NoMemory>
     ensures value { IfOk result (λ order.
         option_map order_value order ≡ tile_order (texts words.entry.now)) }
-    ensures lawful { IfOk result (λ order. IfSome order CanBeDone) }
+    ensures lawful { IfOk result (λ order. IfSome order IsLawful) }
 {
     match read(alloc, &[SIDE.name], words)? {
         Some(given) => Ok(tile_of(&given)),
@@ -89,7 +95,7 @@ fn tile_order<'a>(alloc: Global, words: &'a [String]) -> Result<Option<Order<'a>
 fn tile_of<'a>(given: &ArgMatches<'a>) -> Option<Order<'a>>
     ensures value { (all : GivenWords) → IsGiven given.now all
         → option_map order_value result ≡ tile_of all }
-    ensures lawful { IfSome result CanBeDone }
+    ensures lawful { IfSome result IsLawful }
 {
     let words = positional(given)?;
     let [file, z, x, y] = words else {
@@ -105,10 +111,7 @@ fn tile_of<'a>(given: &ArgMatches<'a>) -> Option<Order<'a>>
 }
 
 /// What the words after `serve` ask for.
-pub(crate) fn serve_order<'a>(
-    alloc: Global,
-    words: &'a [String],
-) -> Result<Option<Order<'a>>, NoMemory>
+fn serve_order<'a>(alloc: Global, words: &'a [String]) -> Result<Option<Order<'a>>, NoMemory>
     ensures value { IfOk result (λ order.
         option_map order_value order ≡ serve_order (texts words.entry.now)) }
     ensures lawful { IfOk result (λ order. IfSome order IsLawful) }
@@ -169,10 +172,7 @@ fn serve_cfg(given: &ArgMatches<'_>) -> Option<ServeCfg>
 }
 
 /// What the words after `gen` ask for.
-pub(crate) fn gen_order<'a>(
-    alloc: Global,
-    words: &'a [String],
-) -> Result<Option<Order<'a>>, NoMemory>
+fn gen_order<'a>(alloc: Global, words: &'a [String]) -> Result<Option<Order<'a>>, NoMemory>
     ensures value { IfOk result (λ order.
         option_map order_value order ≡ gen_order (texts words.entry.now)) }
     ensures lawful { IfOk result (λ order. IfSome order IsLawful) }

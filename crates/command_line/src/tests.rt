@@ -1,4 +1,3 @@
-use crate::orders::{gen_order, serve_order};
 use crate::{Order, order_of};
 use replay_plain::ReplayCfg;
 use serve_plain::ServeCfg;
@@ -17,12 +16,12 @@ fn cut(alloc: Global, text: &str) -> Result<Vec<String>, Fail> {
     Ok(words)
 }
 
-/// Whether these words ask for a replay with this limit, and keep this many blocks.
-fn replays(alloc: Global, text: &str, limit: u64, keep: u32) -> Result<bool, Fail> {
+/// Whether these words ask for a replay with this limit and standard size, and keep this many blocks.
+fn replays(alloc: Global, text: &str, limit: u64, standard: u32, keep: u32) -> Result<bool, Fail> {
     let words = cut(alloc, text)?;
     let wanted = ReplayCfg {
         limit,
-        standard: 64,
+        standard,
         keep,
     };
     Ok(match order_of(alloc, &words)? {
@@ -42,10 +41,10 @@ fn is_tile(alloc: Global, text: &str, wanted: Tile, pixels: u32) -> Result<bool,
     })
 }
 
-/// Whether these words after `serve` ask for the file `a.pgm` with these settings.
+/// Whether these words ask to serve the file `a.pgm` with these settings.
 fn serves(alloc: Global, text: &str, wanted: ServeCfg) -> Result<bool, Fail> {
     let words = cut(alloc, text)?;
-    Ok(match serve_order(alloc, &words)? {
+    Ok(match order_of(alloc, &words)? {
         Some(Order::Serve { file, cfg }) => file == "a.pgm" && cfg == wanted,
         _ => false,
     })
@@ -65,25 +64,19 @@ fn lawful_words_ask(rt: HostRuntime) -> Result<(), Fail> {
         y: 0,
     };
     assert!(rt;
-        replays(alloc, "replay", 1_048_576, 16)?
-            && replays(alloc, "replay --keep=0 --limit 7 --", 7, 0)?
+        replays(alloc, "replay", 1_048_576, 64, 16)?
+            && replays(alloc, "replay --keep=0 --limit 7 --standard 2 --", 7, 2, 0)?
             && is_tile(alloc, "tile a.pgm 6 65535 0", last, 256)?
             && is_tile(alloc, "tile --side 64 -- a.pgm 6 65535 0", last, 64)?
     );
-    Ok(())
-}
-
-#[test]
-fn words_of_commands_to_come_ask(rt: HostRuntime) -> Result<(), Fail> {
-    let alloc = rt.alloc();
-    let wanted = ServeCfg {
+    let settings = ServeCfg {
         rounds: 1000,
         entries: 1,
         ..ServeCfg::default()
     };
-    assert!(rt; serves(alloc, "--rounds=1000 a.pgm --entries 1", wanted)?);
-    let words = cut(alloc, "999999")?;
-    assert!(rt; matches!(gen_order(alloc, &words)?, Some(Order::Gen(999_999))));
+    assert!(rt; serves(alloc, "serve --rounds=1000 a.pgm --entries 1", settings)?);
+    let words = cut(alloc, "gen 999999")?;
+    assert!(rt; matches!(order_of(alloc, &words)?, Some(Order::Gen(999_999))));
     Ok(())
 }
 
@@ -103,12 +96,14 @@ fn other_words_are_refused(rt: HostRuntime) -> Result<(), Fail> {
         "replay --limit 1048577",
         "replay --lim 4",
         "replay --keep 4 --keep=4",
-        "replay --standard 64",
+        "replay --standard 513",
         "tile a.pgm 0 0",
         "tile -- a.pgm 0 0 0 0",
         "tile a.pgm 0 0 0 --side 100",
-        "serve a.pgm",
-        "gen 0",
+        "serve",
+        "serve a.pgm --clients 65",
+        "gen 1000000",
+        "gen 0 --limit 4",
     ] {
         assert!(rt; is_refused(rt.alloc(), text)?);
     }

@@ -4,7 +4,7 @@ use Rattle.std.proofs.lemmas.Bool.{lt-ltb}
 use Rattle.discard_io.specs.Streams.{IsAllOf, Exceeds}
 use Rattle.tile_source.specs.declared.causes.TheConstants.{FILE_TOO_LONG}
 use Rattle.tile_source.specs.declared.limits.TheConstants.{MOST_FILE_BYTES}
-use Rattle.discard.specs.TileRun.{image_of, file_refusal, Drives, FileRefused}
+use Rattle.discard.specs.ImageFile.{image_of, file_refusal, IsNoImage}
 
 long_refused : (bytes : List ℕ) → MOST_FILE_BYTES < length bytes → image_of bytes ≡ Err (file_refusal MOST_FILE_BYTES FILE_TOO_LONG)
 long_refused bytes long =
@@ -27,7 +27,7 @@ long_file None long = let more = more_than MOST_FILE_BYTES in (more.0, (tt, more
 long_file (Some standing) long = (standing, (refl, long))
 
 -- a file that is too long is refused
-pub too_long : (before after : Drives) → Exceeds before.file MOST_FILE_BYTES → after.written ≡ before.written → FileRefused MOST_FILE_BYTES FILE_TOO_LONG before after
-too_long before after long unwritten =
-    let file = long_file before.file long in
-    record { bytes = file.0; standing = file.1.0; refused = long_refused file.0 file.1.1; unwritten = unwritten }
+pub too_long : (file : Option (List ℕ)) → Exceeds file MOST_FILE_BYTES → IsNoImage file MOST_FILE_BYTES FILE_TOO_LONG
+too_long file long =
+    let found = long_file file long in
+    record { bytes = found.0; standing = found.1.0; refused = long_refused found.0 found.1.1 }

@@ -1,5 +1,5 @@
-pub mod Asked
+pub mod Drawn
 pub mod Files
-pub mod Options
-pub mod Parts
-pub mod Reading
+pub mod Inputs
+pub mod Refusals
+pub mod Told

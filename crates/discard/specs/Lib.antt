@@ -1,7 +1,6 @@
-pub mod Commands
-pub mod Given
-pub mod Orders
+pub mod ImageFile
+pub mod Outside
 pub mod Report
+pub mod ServeRun
 pub mod TileRun
 pub mod Top
-pub mod Words

@@ -5,9 +5,11 @@ use Rattle.discard_io.specs.declared.status.Status.{Status}
 use Rattle.discard_io.specs.declared.status.Status.TheVariants.{Done, NoMemory, Usage, BadInput, ReadFault, WriteFault, FileFault}
 use Rattle.discard_io.specs.Streams.{appended, WroteFront}
 use Rattle.replay_run.specs.declared.differ.Differ.{Differ}
+use Rattle.serve_run.specs.Served.{report_of}
 use Rattle.discard.specs.declared.top.Ended.{Ended}
 use Rattle.discard.specs.declared.top.Run.{Run}
-use Rattle.discard.specs.declared.top.Run.TheVariants.{Nothing, Replay}
+use Rattle.discard.specs.declared.top.Run.TheVariants.{Nothing, Replay, Serve}
+use Rattle.discard.specs.Outside.{Telling}
 
 -- the line for a status, and nothing for Done
 abbrev pub status_line : Status → List ℕ
@@ -28,22 +30,20 @@ differ_line (Some differ) = codes "discard: line " ++ decimal differ.place ++ co
 abbrev pub run_text : Run → List ℕ
 run_text Nothing = []
 run_text (Replay replayed) = differ_line replayed.differs
+run_text (Serve served) = report_of served
+
+-- the text that was made for the report while there was memory for it: a served run's report, and else none
+abbrev pub IsMadeFor : Run → List ℕ → Type 0
+IsMadeFor (Serve served) text = text ≡ report_of served
+IsMadeFor run text = text ≡ []
 
 -- what the report gets where a run ended so: the text for the run where it is done, and else the line of its status
-abbrev pub report_of : Ended → List ℕ
-report_of ended = by_status ended.status
+abbrev pub text_for : Ended → List ℕ
+text_for ended = by_status ended.status
   where
     by_status : Status → List ℕ
     by_status Done = run_text ended.run
     by_status status = status_line status
-
--- what the report tells: the bytes written, and how often it has failed
-pub record Telling : Type 0 where
-  pub written : Option (List ℕ)
-  pub faults : ℕ
-
-abbrev pub telling : Option (List ℕ) → ℕ → Telling
-telling written faults = record { written = written; faults = faults }
 
 -- a text was written on the report, or where the report failed a front of it; an empty text leaves the report alone
 pub record Told (text : List ℕ) (before after : Telling) : Type 0 where
@@ -74,6 +74,11 @@ Reports ran ended before after = by_status ran.status
   where
     by_status : Status → Type 0
     by_status Done =
-        (ReportMade (report_of ran) ran ended before after × (after.written ≡ appended before.written (report_of ran)))
-        ⊎ ReportFailed (report_of ran) ended before after
-    by_status status = ReportMade (report_of ran) ran ended before after
+        (ReportMade (text_for ran) ran ended before after × (after.written ≡ appended before.written (text_for ran)))
+        ⊎ ReportFailed (text_for ran) ended before after
+    by_status status = ReportMade (text_for ran) ran ended before after
+
+-- the status after the report: that of the run, or a write fault where the run is done
+abbrev pub EndsOn : Status → Status → Type 0
+EndsOn Done ended = (ended ≡ Done) ⊎ (ended ≡ WriteFault)
+EndsOn ran ended = ended ≡ ran

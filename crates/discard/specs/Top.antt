@@ -1,49 +1,25 @@
 -- How the program ends: its run by what its words ask for, and then its report.
-use Rattle.std.specs.Prelude.{◌≡◌, ℕ, ◌≤◌, List, Option, Some, None}
+use Rattle.std.specs.Prelude.{◌≡◌, ◌⊎◌, ℕ, ◌≤◌, List, Option, Some, None, Result, Ok, Err}
+use Rattle.command_line.specs.Commands.{OrderValue, Replay, WriteTile, Serve, Generate}
 use Rattle.discard_io.specs.declared.status.Status.{Status}
-use Rattle.discard_io.specs.declared.status.Status.TheVariants.{Done, Usage}
+use Rattle.discard_io.specs.declared.status.Status.TheVariants.{Done, NoMemory, Usage}
 use Rattle.replay_plain.specs.declared.config.ReplayCfg.{ReplayCfg}
 use Rattle.replay_run.specs.declared.replaying.Replayed.{Replayed}
-use Rattle.replay_run.specs.Ending.{Devices, devices, Ends}
+use Rattle.replay_run.specs.Ending.{Ends}
+use Rattle.serve_plain.specs.declared.config.ServeCfg.{ServeCfg}
+use Rattle.serve_run.specs.declared.served.Served.{Served}
 use Rattle.tile_source.specs.declared.tile.Tile.{Tile}
 use Rattle.discard.specs.declared.top.Ended.{Ended}
 use Rattle.discard.specs.declared.top.Run.{Run}
 use Rattle.discard.specs.declared.top.Run.TheVariants as run
-use Rattle.discard.specs.Commands.{OrderValue, Replay, WriteTile}
-use Rattle.discard.specs.TileRun.{Drives, drives, TileEnds}
-use Rattle.discard.specs.Report.{Telling, Reports}
+use Rattle.discard.specs.Outside.{Outside, devices_of, drives_of, telling_of, Telling}
+use Rattle.discard.specs.Report.{Reports}
+use Rattle.discard.specs.ServeRun.{ServeEnds, GenEnds}
+use Rattle.discard.specs.TileRun.{TileEnds}
 
--- what the objects of a run tell: the bytes left in the input, the bytes written on the output, the bytes under each name, and
--- how often each has failed
-pub record Outside : Type 0 where
-  pub left : Option (List ℕ)
-  pub read_faults : ℕ
-  pub written : Option (List ℕ)
-  pub write_faults : ℕ
-  pub files : List ℕ → Option (List ℕ)
-  pub file_faults : ℕ
-
-abbrev pub outside : Option (List ℕ) → ℕ → Option (List ℕ) → ℕ → (List ℕ → Option (List ℕ)) → ℕ → Outside
-outside left read_faults written write_faults files file_faults = record {
-  left = left;
-  read_faults = read_faults;
-  written = written;
-  write_faults = write_faults;
-  files = files;
-  file_faults = file_faults;
-}
-
--- what the input and the output tell
-abbrev pub devices_of : Outside → Devices
-devices_of o = devices o.left o.read_faults o.written o.write_faults
-
--- what the output and the file with this name tell
-abbrev pub drives_of : List ℕ → Outside → Drives
-drives_of name o = drives (o.files name) o.file_faults o.written o.write_faults
-
--- the words are not lawful, and nothing was touched
-pub record WordsRefused (ran : Ended) (before after : Outside) : Type 0 where
-  pub ended : ran ≡ record { status = Usage; run = run.Nothing }
+-- the run ended with this status before it began, and nothing was touched
+pub record NotBegun (status : Status) (ran : Ended) (before after : Outside) : Type 0 where
+  pub ended : ran ≡ record { status = status; run = run.Nothing }
   pub devices : devices_of after ≡ devices_of before
   pub files : after.file_faults ≡ before.file_faults
 
@@ -69,19 +45,47 @@ pub record TileRan (file : List ℕ) (tile : Tile) (side : ℕ) (ran : Ended) (b
   pub left : after.left ≡ before.left
   pub reads : after.read_faults ≡ before.read_faults
 
--- a run ended by what the words ask for
+-- how a run that serves ended: it hands on what it served, or has a status and hands on nothing
+abbrev pub ended_by : Result Served Status → Ended
+ended_by (Ok served) = record { status = Done; run = run.Serve served }
+ended_by (Err status) = record { status = status; run = run.Nothing }
+
+-- tiles of the image in a file were served with these settings, or the run ended before that
+pub record ServeRan (file : List ℕ) (cfg : ServeCfg) (ran : Ended) (before after : Outside) : Type 0 where
+  pub answer : Result Served Status
+  pub ends : ServeEnds file cfg answer before after
+  pub handed : ran ≡ ended_by answer
+
+-- the workload that is drawn from a number was served, or the run ended before that; the input and the files were left alone
+pub record GenRan (n : ℕ) (ran : Ended) (before after : Outside) : Type 0 where
+  pub answer : Result Served Status
+  pub ends : GenEnds n answer (telling_of before) (telling_of after)
+  pub handed : ran ≡ ended_by answer
+  pub left : after.left ≡ before.left
+  pub reads : after.read_faults ≡ before.read_faults
+  pub files : after.file_faults ≡ before.file_faults
+
+-- a run ended by what the words ask for, which is nothing where they are not lawful
 abbrev pub EndsAsAsked : Option OrderValue → Ended → Outside → Outside → Type 0
-EndsAsAsked None ran before after = WordsRefused ran before after
+EndsAsAsked None ran before after = NotBegun Usage ran before after
 EndsAsAsked (Some (Replay cfg)) ran before after = ReplayRan cfg ran before after
 EndsAsAsked (Some (WriteTile file tile side)) ran before after = TileRan file tile side ran before after
+EndsAsAsked (Some (Serve file cfg)) ran before after = ServeRan file cfg ran before after
+EndsAsAsked (Some (Generate n)) ran before after = GenRan n ran before after
 
--- how a run ended: as asked; what stands under each name stays, and no count of faults fell
+-- How a run ended: as asked, or it was out of memory when it read its words. What stands under each name stays, and no count of
+-- faults fell.
 pub record Runs (order : Option OrderValue) (ran : Ended) (before after : Outside) : Type 0 where
-  pub as_asked : EndsAsAsked order ran before after
+  pub as_asked : EndsAsAsked order ran before after ⊎ NotBegun NoMemory ran before after
   pub names : (name : List ℕ) → after.files name ≡ before.files name
   pub reads : before.read_faults ≤ after.read_faults
   pub writes : before.write_faults ≤ after.write_faults
   pub files : before.file_faults ≤ after.file_faults
+
+-- Usage comes exactly for words that are not lawful, which yields to being out of memory
+pub record TellsUsage (order : Option OrderValue) (status : Status) : Type 0 where
+  pub only : status ≡ Usage → order ≡ None
+  pub always : order ≡ None → (status ≡ Usage) ⊎ (status ≡ NoMemory)
 
 -- how the program ended: its run ended, and then its report was made
 pub record ProgramEnds (order : Option OrderValue) (ended : Ended) (before after : Outside) (quiet told : Telling) : Type 0 where

@@ -1,20 +1,22 @@
 #![tactic(auto)]
 //! `discard`: soft memory for caches. `discard replay` runs a script of events from the standard input, and writes a
-//! line of reply to each on the standard output. `discard tile` writes one tile of the image in a file.
+//! line of reply to each on the standard output. `discard tile` writes one tile of the image in a file. `discard serve`
+//! serves its tiles to many clients, as requests from the standard input ask, and `discard gen` a workload that it draws.
 
-ghost use Rattle.discard.specs.Report.{status_line, telling, Told};
+ghost use Rattle.discard.specs.Outside.{telling};
+ghost use Rattle.discard.specs.Report.{status_line, Told};
 
-mod orders;
+mod image_file;
 mod report;
+mod served_run;
 #[cfg(test)]
 mod tests;
 mod tile_run;
 mod top;
-mod words;
 
 use crate::report::tell;
 use crate::top::discard;
-use discard_io::{CountClock, DirFiles, OpenGate, Sink, Status, StdSink, StdSource};
+use discard_io::{DirFiles, OpenGate, Sink, Status, StdSink, StdSource, SystemClock};
 use std::env;
 use std::process::ExitCode;
 
@@ -30,7 +32,7 @@ fn main(rt: HostRuntime) -> ExitCode {
     let mut input = StdSource::new(rt.stdin());
     let mut out = StdSink::new(rt.stdout());
     let mut files = DirFiles::new(&rt);
-    let clock = CountClock::new(1);
+    let clock = SystemClock::new(&rt);
     let gate = OpenGate::new();
     let ended = discard(
         &rt,

@@ -1,25 +1,30 @@
-ghost use Rattle.std.specs.Prelude.{◌≡◌, ◌≢◌, ◌≤◌, ◌↔◌, ◌++◌, codes, decimal, length};
-ghost use Rattle.discard.specs.Report.{status_line, run_text, telling, Told, Reports};
+ghost use Rattle.std.specs.Prelude.{◌≡◌, ◌≤◌, ◌++◌, [], codes, decimal, length, OnOk, OnErr};
+ghost use Rattle.discard_io.specs.Streams.{appended, WroteFront};
+ghost use Rattle.discard_io.specs.WriteAll.{WritesNothing};
+ghost use Rattle.units.specs.Count.{HasRisen};
+ghost use Rattle.discard.specs.Outside.{telling};
+ghost use Rattle.discard.specs.Report.{status_line, run_text, IsMadeFor, Told, Reports, EndsOn};
 
 use crate::top::{Ended, Run};
 use arrayvec::ArrayString;
-use discard_io::{Sink, Status, write_all};
+use discard_io::{Failed, Sink, Status, write_all};
 use itoa::Buffer;
 
 /// Room for the longest line of a status.
 const ROOM: usize = 64;
 
 /// Makes the report of a run, and is how the program ends: as the run did, or as a write fault where the run is done and
-/// the report fails. It takes no memory.
-pub(crate) fn reported<E: Sink>(report: &mut E, ran: Ended) -> Ended
+/// the report fails. `text` was made for the report of a run that served. It takes no memory.
+pub(crate) fn reported<E: Sink>(report: &mut E, ran: Ended, text: &[u8]) -> Ended
+    requires { IsMadeFor ran.run text.now }
     ensures reports { Reports ran result
         (telling (E.written report.old) (E.faults report.old))
         (telling (E.written report.new) (E.faults report.new)) }
-    ensures usage { (result.status ≡ Status.Usage) ↔ (ran.status ≡ Status.Usage) }
+    ensures status { EndsOn ran.status result.status }
 {
     let status = ran.status;
     match status {
-        Status::Done => reported_done(report, ran),
+        Status::Done => reported_done(report, ran, text),
         _ => {
             tell(report, status);
             ran
@@ -28,15 +33,15 @@ pub(crate) fn reported<E: Sink>(report: &mut E, ran: Ended) -> Ended
 }
 
 /// Makes the report of a run that is done.
-fn reported_done<E: Sink>(report: &mut E, ran: Ended) -> Ended
-    requires { ran.status ≡ Status.Done }
+fn reported_done<E: Sink>(report: &mut E, ran: Ended, text: &[u8]) -> Ended
+    requires done { ran.status ≡ Status.Done }
+    requires text { IsMadeFor ran.run text.now }
     ensures reports { Reports ran result
         (telling (E.written report.old) (E.faults report.old))
         (telling (E.written report.new) (E.faults report.new)) }
-    ensures usage { result.status ≢ Status.Usage }
+    ensures status { EndsOn Status.Done result.status }
 {
-    let line = run_line(&ran.run);
-    match write_all(report, line.as_str().as_bytes()) {
+    match write_run(report, &ran.run, text) {
         Ok(()) => ran,
         Err(_) => {
             tell(report, Status::WriteFault);
@@ -48,16 +53,24 @@ fn reported_done<E: Sink>(report: &mut E, ran: Ended) -> Ended
     }
 }
 
-/// The text that the report gets for a run that is done.
-fn run_line(run: &Run) -> ArrayString<ROOM>
-    ensures { result.bytes ≡ run_text run.now }
+/// Writes what the report gets for a run that is done, as `write_all` does.
+fn write_run<E: Sink>(report: &mut E, run: &Run, text: &[u8]) -> Result<(), Failed>
+    requires { IsMadeFor run.now text.now }
+    ensures all { OnOk result
+        (E.written report.new ≡ appended (E.written report.old) (run_text run.now)) }
+    ensures front { OnErr result
+        (WroteFront (E.written report.old) (run_text run.now) (E.written report.new)) }
+    ensures nothing { run_text run.now ≡ [] → WritesNothing result report.old report.new }
+    ensures failed { OnErr result (HasRisen (E.faults report.old) (E.faults report.new)) }
+    ensures later { E.faults report.old ≤ E.faults report.new }
 {
     match run {
-        Run::Nothing => line(""),
+        Run::Nothing => Ok(()),
         Run::Replay(replayed) => match &replayed.differs {
-            None => line(""),
-            Some(differ) => differ_line(differ.place),
+            None => Ok(()),
+            Some(differ) => write_all(report, differ_line(differ.place).as_str().as_bytes()),
         },
+        Run::Serve(_) => write_all(report, text),
     }
 }
 

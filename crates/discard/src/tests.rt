@@ -25,8 +25,8 @@ impl Devices {
         files.add(alloc, "--x", file)?;
         Ok(Devices {
             input: MemSource::new(alloc, script.as_bytes(), 5, &[])?,
-            out: MemSink::new(alloc, 4200, 4096, &[])?,
-            report: MemSink::new(alloc, 64, 7, &[])?,
+            out: MemSink::new(alloc, 300_000, 4096, &[])?,
+            report: MemSink::new(alloc, 1000, 7, &[])?,
             files,
         })
     }
@@ -106,7 +106,7 @@ fn is_dark_tile(bytes: &[u8], first: u8) -> bool {
     }
 }
 
-/// Whether a run tells this line on the report, and writes nothing else.
+/// Whether a run tells this line on the report, and writes nothing else. The file has one pixel.
 fn is_refused<H: Threads + Wait + Sync>(
     rt: &H,
     alloc: Global,
@@ -114,7 +114,7 @@ fn is_refused<H: Threads + Wait + Sync>(
     script: &str,
     line: &str,
 ) -> Result<bool, Fail> {
-    let mut devices = Devices::new(alloc, script, b"")?;
+    let mut devices = Devices::new(alloc, script, b"P5 1 1 255\n\x07")?;
     let ended = run(rt, alloc, words, &mut devices)?;
     Ok(
         matches!(ended.run, Run::Nothing)
@@ -153,7 +153,7 @@ fn differing(alloc: Global, fails: &[u64]) -> Result<(Status, MemSink), Fail> {
         status: Status::Done,
         run: Run::Replay(replayed),
     };
-    let ended = reported(&mut report, ran);
+    let ended = reported(&mut report, ran, b"");
     Ok((ended.status, report))
 }
 
@@ -198,7 +198,9 @@ fn other_words_are_usage(rt: HostRuntime) -> Result<(), Fail> {
         "replay --standard 64",
         "tile a.pgm 0 0",
         "tile a.pgm 0 0 0 --side 64 --side 64",
+        "serve",
         "serve a.pgm --side 100",
+        "gen 1000000",
         "--help",
     ] {
         assert!(rt; is_refused(&rt, rt.alloc(), words, "", "discard: usage\n")?);
@@ -213,6 +215,32 @@ fn refused_scripts_say_where_and_why(rt: HostRuntime) -> Result<(), Fail> {
     assert!(rt;
         is_refused(&rt, alloc, "replay", word, "discard: bad input 1 1\n")?
             && is_refused(&rt, alloc, "replay", number, "discard: bad input 3 3\n")?
+    );
+    Ok(())
+}
+
+#[test]
+fn refused_requests_say_where_and_why(rt: HostRuntime) -> Result<(), Fail> {
+    let alloc = rt.alloc();
+    for requests in ["5 0 0 0", "1 0 18446744073709551616 0", "1 7 0 0"] {
+        assert!(rt;
+            is_refused(
+                &rt,
+                alloc,
+                "serve a.pgm",
+                requests,
+                "discard: bad input 1 3\n"
+            )?
+        );
+    }
+    assert!(rt;
+        is_refused(
+            &rt,
+            alloc,
+            "serve b.pgm",
+            "1 0 0 0",
+            "discard: file fault\n"
+        )?
     );
     Ok(())
 }

@@ -1,5 +1,5 @@
 -- One option more.
-use Rattle.std.proofs.Common.{◌∙◌, [], ap, ap₂, sym, take, slice_index_or}
+use Rattle.std.proofs.Common.{◌∙◌, [], ap, ap₂, sym, take}
 use Rattle.clap.specs.Words.{with_rule}
 use Rattle.command_line.specs.Words.{texts_of}
 use Rattle.command_line.specs.ClapWords.{simple_app}
