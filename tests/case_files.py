@@ -1,5 +1,6 @@
 """Reads files of cases. README.md, beside this file, says what stands in them."""
 
+import functools
 import itertools
 import os
 import random
@@ -35,6 +36,9 @@ class Case:
         self.status = None
         self.output = None
         self.report = None
+        # Bytes that stand at a place of the output, and the last lines of the report.
+        self.within_output = []
+        self.report_end = b""
 
     def is_plain(self):
         """Whether the model has an answer of its own: ordinary devices, and ample memory."""
@@ -154,8 +158,8 @@ def choices_of(block):
         yield {name: value for row in rows for name, value in row.items()}
 
 
-def case_of(block, given):
-    case = Case(text_of(block[0][1], given).decode(errors="replace"))
+def case_of(name, block, given):
+    case = Case(name)
     served = False
     for key, rest, lines in block[1:]:
         rest, lines = rest.strip(), "".join(line + "\\n" for line in lines)
@@ -180,6 +184,11 @@ def case_of(block, given):
             case.output = text()
         elif key == "report":
             case.report = text()
+        elif key == "report-end":
+            case.report_end = text()
+        elif key == "within-output":
+            place, _, held = rest.partition(" ")
+            case.within_output.append((int(text_of(place, given)), text_of(held, given)))
         elif key == "status":
             case.status = int(text())
         elif key in ENDS:
@@ -232,10 +241,10 @@ ENDS = {
 
 
 def cases_in(folder):
+    """The name of each case in a folder's files, and what makes the case."""
     for name in sorted(os.listdir(folder)):
         if name.endswith(".case"):
             for block in blocks_of(os.path.join(folder, name)):
                 for given in choices_of(block):
-                    case = case_of(block, given)
-                    case.name = f"{name[:-5]}: {case.name}"
-                    yield case
+                    title = f"{name[:-5]}: {text_of(block[0][1], given).decode(errors='replace')}"
+                    yield title, functools.partial(case_of, title, block, given)

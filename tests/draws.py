@@ -26,7 +26,7 @@ def long_script(seed):
 def broken_script(seed):
     """A script in which a few words, lines or bytes were changed."""
     draw = random.Random(f"broken script {seed}")
-    lines = draw.choice((commands(draw), managed(draw, 30)))
+    lines = draw.choice((commands(draw), managed(draw, 30), on_pieces(draw, 30, 6)))
     for _ in range(draw.choice((1, 1, 1, 2, 3))):
         break_line(draw, lines)
     text = bytearray(text_of(draw, lines))
@@ -238,6 +238,42 @@ def on_piece(draw, kind, pieces, moment):
     return [kind, str(number), str(place), str(count) if kind == "pread" else bytes_of(draw, count).hex()]
 
 
+def served_run(seed):
+    """A served run of a small image: requests for a few tiles, with settings of which most have something purged."""
+    draw = random.Random(f"served run {seed}")
+    clients = draw.choice((1, 1, 2, 2, 3, 4, 4, 8, 64))
+    given = [b"serve", b"a.pgm"] + option(draw, "--clients", clients) + option(draw, "--side", draw.choice((64, 64, 64, 128, 256)))
+    for name, values in (
+        ("--limit", (0, 1, 2, 5, 20, 64, 300, 1048576)),
+        ("--entries", (1, 1, 2, 3, 5, 20, 4096)),
+        ("--rounds", (0, 1, 3, 20, 100)),
+        ("--standard", (1, 2, 3, 5, 16, 64, 512)),
+        ("--keep", (0, 1, 4, 256)),
+    ):
+        if draw.random() < 0.7:
+            given += option(draw, name, draw.choice(values))
+    tiles = [[str(draw.choice(span)) for span in (range(7), range(4), range(3))] for _ in range(draw.choice((1, 3, 8, 20)))]
+    lines = [[str(draw.randrange(1, clients + 1)), *draw.choice(tiles)] for _ in range(draw.choice((0, 1, 5, 20, 60, 200)))]
+    return given, text_of(draw, lines), {b"a.pgm": small_image(draw)}
+
+
+def broken_requests(seed):
+    """Requests in which a few words, lines or bytes were changed."""
+    draw = random.Random(f"broken requests {seed}")
+    lines = [[str(draw.choice(span)) for span in (range(1, 4), range(7), range(4), range(3))] for _ in range(draw.choice((1, 4, 20)))]
+    for _ in range(draw.choice((1, 1, 1, 2, 3))):
+        break_line(draw, lines)
+    text = bytearray(text_of(draw, lines))
+    if text and draw.random() < 0.2:
+        text[draw.randrange(len(text))] = draw.choice(b" \n\r\t#0-x\x00\xff\xa0")
+    return [b"serve", b"a.pgm", b"--side=64", b"--clients=3"], bytes(text), {b"a.pgm": small_image(draw)}
+
+
+def small_image(draw):
+    width, height = (draw.choice((1, 3, 63, 64, 65, 130, 200)) for _ in range(2))
+    return b"P5 %d %d %d\n" % (width, height, draw.choice((1, 100, 255, 255))) + bytes_of(draw, width * height)
+
+
 def managed_words(draw, limits=(0, 1, 4, 8, 20, 60, 200, 1048576)):
     given = [b"replay"]
     if draw.random() < 0.8:
@@ -312,7 +348,7 @@ def break_line(draw, lines):
     elif kind in (2, 3, 4):
         line[word] = draw.choice(BAD_NUMBERS)
     elif kind == 5:
-        line[0] = draw.choice(("Grant", "grants", "gran", "back", "reduce", "granted", "pressure", "x", "lock", "try", "read", "write"))
+        line[0] = draw.choice(("Grant", "grants", "gran", "back", "reduce", "granted", "pressure", "x", "lock", "try", "read", "write", "alloc", "plock", "runs", "Runs"))
     elif kind == 6:
         line.reverse()
     else:
@@ -324,6 +360,12 @@ POOL = (
     "replay", "tile", "serve", "gen", "a.pgm", "a.pgm", "a.pgm", "b.pgm", "--x", "", "-", "--", "--", "0", "0", "1", "6", "7", "00", "65535",
     "65536", "--side", "--side", "--side=64", "--side=128", "--side=256", "--side=", "--side=65", "--side=64=", "-side", "--sid", "--sidex",
     "64", "128", "256", "100", "--limit", "--limit=4", "--keep", "--keep=2", "--keep=257", "--limit=1048577", "16", "1048576", "--help", "-h", "18446744073709551616", "\u00e9",
+)  # fmt: skip
+
+
+SERVED = (
+    ("--clients", 1, 64), ("--limit", 0, 1048576), ("--side", 64, 256), ("--entries", 1, 4096), ("--rounds", 0, 1000), ("--standard", 1, 512),
+    ("--keep", 0, 256),
 )  # fmt: skip
 
 
@@ -339,6 +381,13 @@ def words(seed):
         for name in ("--limit", "--keep", draw.choice(("--limit", "--keep", "--standard", "--"))):
             value = draw.choice(("0", "4", "256", "04", "-4", "", "1048576", "1048577"))
             given += draw.choice(([], [name, value], [f"{name}={value}"], [name]))
+    elif draw.random() < 0.4:
+        given = draw.choice((["serve", "a.pgm"],) * 5 + (["serve"], ["serve", "--", "--x"], ["gen"], ["gen", "00"], ["gen", "1000000"]))
+        for _ in range(draw.choice((0, 1, 1, 2, 3))):
+            name, least, most = draw.choice(SERVED)
+            value = draw.choice((least, most, least, most, least - 1, most + 1, "064", "", "x"))
+            at = draw.randrange(1, len(given) + 1)
+            given[at:at] = draw.choice(([name, str(value)], [f"{name}={value}"], [name, str(value)], [f"{name}={value}"], [name]))
     else:
         given = ["tile", "a.pgm", draw.choice("0123456"), draw.choice("001"), draw.choice("001")]
         for _ in range(draw.randrange(4)):

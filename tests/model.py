@@ -106,12 +106,8 @@ def side(word):
 
 # Of each command the readings of its positional words, and those of its options.
 WORDS = {
-    b"replay": ([], {b"--limit": in_range(0, MOST_LIMIT), b"--keep": in_range(0, 256)}),
+    b"replay": ([], {b"--limit": in_range(0, MOST_LIMIT), b"--standard": in_range(1, 512), b"--keep": in_range(0, 256)}),
     b"tile": ([file_name, in_range(0, 6), in_range(0, 65535), in_range(0, 65535)], {b"--side": side}),
-}
-
-# Those that are to come, and are refused until then; `replay` gets `--standard` with the pieces.
-WORDS_TO_COME = {
     b"serve": (
         [file_name],
         {
@@ -203,10 +199,6 @@ COMMANDS = {
     b"limit": (LIMIT, MOMENT),
     b"remove": (CLIENT,),
     b"granted": (),
-}
-
-# Those that are to come, and are refused until then.
-COMMANDS_TO_COME = {
     b"alloc": (CLIENT, SIZE, MOMENT),
     b"plock": (PIECE,),
     b"punlock": (PIECE, MOMENT),

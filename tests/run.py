@@ -71,9 +71,19 @@ def run_once(case, program, room):
     for what, wanted, came in (("status", case.status, status), ("output", case.output, output), ("report", case.report, report)):
         if wanted is not None and wanted != came:
             wrong.append(f"  {what}: wanted {shown(wanted)}\n  {' ' * len(what)}     came {shown(came)}")
+    wrong += faults_within(case, output or b"", report or b"")
     if case.is_plain() and (case.status, case.output, case.report) != model.outcome(case.words, case.input, case.files):
         wrong.append("  the model of the rules gives something else than this case wants")
     return "\n".join(wrong) or None
+
+
+def faults_within(case, output, report):
+    """What is wrong with the parts of the output and of the report that a case names."""
+    for place, held in case.within_output:
+        if output[place : place + len(held)] != held:
+            yield f"  output at {place}: wanted {shown(held)}, came {shown(output[place : place + len(held)])}"
+    if not report.endswith(case.report_end):
+        yield f"  report: wanted at its end {shown(case.report_end)}, came {shown(report)}"
 
 
 def ends(case, program, folder):
@@ -173,17 +183,20 @@ def lay_files(case, folder):
 def work(given):
     """The outcomes of some cases: of each whether it passed, and what is to be said."""
     numbers, program, room = given
-    return [outcome(CASES[number], program, room) for number in numbers]
+    return [outcome(*CASES[number], program, room) for number in numbers]
 
 
-def outcome(case, program, room):
+def outcome(name, made, program, room):
     try:
+        case = made()
         wrong = run(case, program, room)
     except Skipped as why:
-        return "skipped", f"skipped: {case.name}: {why}"
+        return "skipped", f"skipped: {name}: {why}"
+    except case_files.Bad as error:
+        return "failed", f"FAILED: {name}\n  the case cannot be read: {error}"
     except OSError as error:
         wrong = f"  {error}"
-    return ("failed", f"FAILED: {case.name}\n  words: {shown(case.words)}\n  input: {shown(case.input)}\n{wrong}") if wrong else ("passed", "")
+    return ("failed", f"FAILED: {name}\n  words: {shown(case.words)}\n  input: {shown(case.input)}\n{wrong}") if wrong else ("passed", "")
 
 
 def shown(value):
@@ -191,6 +204,7 @@ def shown(value):
     return text if len(text) <= 300 else f"{text[:200]} .. {text[-80:]}, {len(value)} long"
 
 
+# The name of each case, and what makes it.
 CASES = []
 OFTEN = "--often" in sys.argv[1:]
 
@@ -198,7 +212,7 @@ OFTEN = "--often" in sys.argv[1:]
 def main():
     pattern = next((word for word in sys.argv[1:] if word != "--often"), "")
     try:
-        CASES.extend(it for it in case_files.cases_in(os.path.join(TOP, "tests", "cases")) if pattern in it.name)
+        CASES.extend(it for it in case_files.cases_in(os.path.join(TOP, "tests", "cases")) if pattern in it[0])
     except case_files.Bad as error:
         sys.exit(str(error))
     counts = dict(passed=0, failed=0, skipped=0)

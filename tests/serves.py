@@ -47,19 +47,21 @@ def fault_of(report, settings, requests):
     """What is wrong with a report, or None."""
     if not report.endswith(b"\n"):
         return "its last line has no end"
-    lines = report.decode().split("\n")[:-1]
+    lines = report.decode(errors="replace").split("\n")[:-1]
     told = 1 + settings.clients
     if len(lines) < told:
         return "it has too few lines"
     try:
-        granted = book_fault(lines[:-told], settings)
+        granted, purged = book_of(lines[:-told], settings)
     except Wrong as wrong:
         return str(wrong)
+    except ValueError:
+        return "a line of its book has other words"
     if lines[-1] != "granted 0":
         return f"it ends with {lines[-1]}"
     for client, line in enumerate(lines[-told:-1], 1):
         asked = [tuple(tile) for number, *tile in requests if number == client]
-        wrong = tally_fault(line, client, asked, granted.get(client, []), settings)
+        wrong = tally_fault(line, client, asked, granted[client], purged[client], settings)
         if wrong:
             return f"{line}: {wrong}"
     return None
@@ -69,13 +71,15 @@ class Wrong(Exception):
     pass
 
 
-def book_fault(lines, settings):
-    """Goes through the lines of a book and raises Wrong at the first that is not legal. The pages of each grant by client."""
-    live, ended, granted, rounds, last = {}, set(), {}, 0, None
+def book_of(lines, settings):
+    """The pages of each client's grants, and those of its segments that were purged. Raises Wrong at the first line of a book
+    that is not legal."""
+    live, ended, rounds, last = {}, set(), 0, None
+    granted, purged = ({client: [] for client in range(1, settings.clients + 1)} for _ in range(2))
     for line in lines:
         kind, *words = line.split(" ")
         numbers = [None if word == "-" else int(word) for word in words]
-        pages = sum(live.values())
+        pages = sum(size for _, size in live.values())
         if last and last[0] == "purge" and kind not in ("purge", "reduced"):
             raise Wrong(f"{line}: a purge before it is in no reduction")
         if kind == "grant":
@@ -89,14 +93,16 @@ def book_fault(lines, settings):
                 raise Wrong(f"{line}: {pages} pages are granted, and no reduction made room")
             if not 1 <= client <= settings.clients:
                 raise Wrong(f"{line}: there is no such client")
-            live[number] = size
-            granted.setdefault(client, []).append(size)
+            live[number] = client, size
+            granted[client].append(size)
         elif kind in ("purge", "back"):
             if numbers[0] not in live:
                 raise Wrong(f"{line}: this segment is not live")
             if kind == "purge" and not numbers[1]:
                 raise Wrong(f"{line}: a segment that was never idle is purged")
-            del live[numbers[0]]
+            client, size = live.pop(numbers[0])
+            if kind == "purge":
+                purged[client].append(size)
             ended.add(numbers[0])
         elif kind == "reduced":
             limit, now, after, least = numbers
@@ -112,14 +118,15 @@ def book_fault(lines, settings):
         raise Wrong(f"{sorted(live)} are granted at the end")
     if rounds < settings.rounds:
         raise Wrong(f"{rounds} reductions to the limit in {settings.rounds} rounds")
-    return granted
+    return granted, purged
 
 
 TALLY = re.compile(r"client (\d+) requests (\d+) first (\d+) kept (\d+) rebuilt (\d+) again (\d+) grants (\d+)")
 
 
-def tally_fault(line, client, asked, granted, settings):
-    """What is wrong with a client's line, given the tiles that it asked and the pages of its grants; or None."""
+def tally_fault(line, client, asked, granted, purged, settings):
+    """What is wrong with a client's line, given the tiles that it asked, the pages of its grants, and those of its purged
+    segments; or None."""
     found = TALLY.fullmatch(line)
     if not found:
         return "it is no client's line"
@@ -131,10 +138,12 @@ def tally_fault(line, client, asked, granted, settings):
         return f"the book has {len(granted)} grants"
     if grants > first + rebuilt + again:
         return "there are more grants than tiles that were made"
+    if first and not grants:
+        return "its tiles were made in no segment"
     # As many tiles lie in a segment as it has room for.
     pages = -(-settings.side * settings.side // PAGE)
-    if rebuilt > sum(size // pages for size in granted):
-        return "there are more lost tiles than the segments had room for"
+    if rebuilt > sum(size // pages for size in purged):
+        return "there are more lost tiles than the purged segments had room for"
     return None
 
 
