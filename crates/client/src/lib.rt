@@ -9,6 +9,8 @@ mod coming;
 mod ending;
 mod gone;
 mod granted;
+#[cfg(test)]
+mod guide;
 mod lease;
 mod piece;
 mod returning;

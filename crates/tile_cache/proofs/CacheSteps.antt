@@ -31,7 +31,7 @@ use Rattle.tile_cache.specs.declared.counts.Shown.TheVariants.{Kept, First, Rebu
 use Rattle.tile_cache.specs.Shown.{counted, no_counts}
 use Rattle.tile_cache.specs.declared.counts.Counts.{Counts}
 use Rattle.tile_cache.specs.Coming.{EntriesStay, GoneStay, Clears, Comes, ComesNone}
-use Rattle.tile_cache.specs.Getting.{Rests, LocksEntry, MakesRoom, Adds, AddsNone, KeepsBytes, Lent, Writes, IsLost, others_of}
+use Rattle.tile_cache.specs.Getting.{Rests, UnlocksFirst, LocksEntry, MakesRoom, Adds, AddsNone, KeepsBytes, Lent, Writes, IsLost, others_of}
 use Rattle.tile_cache.proofs.TilesAskedLast.{StandsOnce, same_itself, absent_without}
 use Rattle.tile_cache.proofs.EntriesStay.{AreOthers, owned_stay, tiles_stay, others_stay, all_stay, first_differs, owned_rest, owned_again, others_differ, once_more}
 use Rattle.tile_cache.proofs.EntriesReordered.{Entry, sum_runs, sum_found, runs_all, owned_found, found_key, found_value, keys_found, runs_found, all_found, keys_without, length_without, absent_value}
@@ -62,8 +62,9 @@ module _ {G : Type 0} where
   }
 
   -- nothing was locked
-  pub rests_same : (cache : Cached G) → AreFree cache.entries → Rests cache cache
-  rests_same cache free = record {
+  pub rests_same : (now : ℕ) (cache : Cached G) → AreFree cache.entries → Rests now cache cache
+  rests_same now cache free = record {
+    unlocks = unlocks_none cache.entries;
     free = free;
     tiles = refl;
     runs = refl;
@@ -73,6 +74,10 @@ module _ {G : Type 0} where
     used = λ tile_of size used. used;
     asked = λ asked stands. stands;
   }
+    where
+      unlocks_none : (entries : List Entry) → UnlocksFirst now entries cache.session.client cache.session.client
+      unlocks_none [] = refl
+      unlocks_none (first ∷ others) = inr refl
 
 -- the first of some entries
 pub first_is : (entries : List Entry) (e : Entry) → slice_get entries 0 ≡ Some e → entries ≡ e ∷ drop 1 entries
@@ -114,7 +119,7 @@ unlocked_tiles tile_of old new count tile piece others gone unlocks stay tiles =
 
 module _ {G : Type 0} (old : Cached G) (room : ℕ) (tile : Tile) (piece : Part) (others : List Entry) (client : Seen) (now : ℕ) (told : Unlocked) where
   pub unlocked_first : IsKept old room → old.entries ≡ (tile, piece) ∷ others → UnlocksRun piece.run now told old.session.client client → UnlocksPiece piece old.session.client client
-      → Rests old (with_entries old client ((tile, record piece { locked = false }) ∷ others)) × IsKept (with_entries old client ((tile, record piece { locked = false }) ∷ others)) room
+      → Rests now old (with_entries old client ((tile, record piece { locked = false }) ∷ others)) × IsKept (with_entries old client ((tile, record piece { locked = false }) ∷ others)) room
   unlocked_first kept is run unlocks =
       let owned : AreOwned old.session.client ((tile, piece) ∷ others) = rw is at kept.entries in
       let free : AreFree others = owned.free in
@@ -122,6 +127,7 @@ module _ {G : Type 0} (old : Cached G) (room : ℕ) (tile : Tile) (piece : Part)
       let stay = others_stay old.session.client client piece.run others unlocks.stay rest.owned (first_differs old.session.client tile piece others owned) in
       let unmoved = unmoved_unlocked piece.run now told old.session.client client run in (
         record {
+          unlocks = rw is (inl (told, run));
           free = All-cons (λ (e : Entry). e.1.locked ≡ false) (tile, record piece { locked = false }) others refl free;
           tiles = sym (ap keys_of is);
           runs = sym (ap runs_of is);
@@ -423,17 +429,19 @@ module _ {G : Type 0} (old : Cached G) (room size : ℕ) (told : Shown) (between
     abbrev pub cache_none : Cached G
     cache_none = record old { session = session; entries = entries_now; shown = shown; tile_bytes = size; failed = true }
 
-    pub came_none : 1 ≤ size → ComesNone between session entries entries_now old.shown shown
+    pub came_none : 1 ≤ size → ComesNone size between session entries entries_now old.shown shown
         → (AddsNone told size old cache_none × ((tile_of : Tile → List ℕ) → IsUsedWith tile_of size old → IsUsedWith tile_of size cache_none)) × IsKept cache_none room
     came_none some none =
         let is : entries_now ≡ others = none.entries ∙ clears.entries in
         let stay : EntriesStay between.client session.client others = rw clears.entries at none.stay in
-        let start = start_still session none.start in (
+        let start = start_still session none.start in
+        let standard : granted_pages between.client (pages_for size) ≡ granted_pages old.session.client (pages_for size) = ap (max (pages_for size)) clears.name.standard in (
           (
             record {
               entries = is;
               shown = none.shown;
               counts = refl;
+              pages = omega (arith, none.fits, clears.fits, standard);
               bytes = refl;
               keeps = record { start = refl; granter = start; most = refl; name = name_on old.session.client between.client session.client clears.name none.name };
               failed = refl;

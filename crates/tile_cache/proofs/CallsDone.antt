@@ -65,13 +65,13 @@ module _ {G : Type 0} (old : Cached G) (room : ℕ) (kept : IsKept old room) (se
   -- the first piece was unlocked
   pub rest_done : (e : Entry) (found piece : Part) (now : ℕ) (told : Unlocked) → slice_get old.entries 0 ≡ Some e → Some found ≡ lookup (is_same e.0) old.entries
       → UnlocksRun found.run now told old.session.client session.client → UnlocksPiece found old.session.client session.client → piece ≡ record found { locked = false }
-      → Rests old (with_session (set_value (is_same e.0) old.entries piece)) × IsKept (with_session (set_value (is_same e.0) old.entries piece)) room
+      → Rests now old (with_session (set_value (is_same e.0) old.entries piece)) × IsKept (with_session (set_value (is_same e.0) old.entries piece)) room
   rest_done e found piece now told first at run unlocks is =
       let found_is = found_first old.entries e found first at in
       let done = unlocked_first old room e.0 e.1 (drop 1 old.entries) session.client now told kept (first_is old.entries e first) (rw found_is at run) (rw found_is at unlocks) in
       let entries : set_value (is_same e.0) old.entries piece ≡ (e.0, record e.1 { locked = false }) ∷ drop 1 old.entries = set_first e.0 piece old.entries e first refl ∙ ap (λ (p : Part). (e.0, p) ∷ drop 1 old.entries) (is ∙ ap (λ (p : Part). record p { locked = false }) found_is) in
       let new = with_same _ _ entries in
-      (subst (λ (c : Cached G). Rests old c) (sym new) done.0, subst (λ (c : Cached G). IsKept c room) (sym new) done.1)
+      (subst (λ (c : Cached G). Rests now old c) (sym new) done.0, subst (λ (c : Cached G). IsKept c room) (sym new) done.1)
 
   -- a tile's entry was brought to the front and locked
   pub lock_done : (tile : Tile) (found piece : Part) (told : Lock) → AreFree old.entries → IsDistinct is_same (tiles_of old) → length old.entries ≤ room → Some found ≡ lookup (is_same tile) old.entries

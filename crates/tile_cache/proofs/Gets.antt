@@ -85,7 +85,7 @@ module _ {G : Type 0} where
   use_on : (one two three : Cached G) → KeepsUse one two → KeepsUse two three → KeepsUse one three
   use_on one two three first second = λ tile_of size used. second tile_of size (first tile_of size used)
 
-  module _ (tile : Tile) (old rested : Cached G) (rests : Rests old rested) where
+  module _ (tile : Tile) (old rested : Cached G) {moment : ℕ} (rests : Rests moment old rested) where
     most_same : rested.most ≡ old.most
     most_same = ap (λ (c : Cached G). c.most) rests.same
 
@@ -239,10 +239,12 @@ module _ {G : Type 0} where
   pub got_none : (told : Shown) (size : ℕ) (tile : Tile) (old looked new : Cached G) → (told ≡ Kept → ⊥) → LooksUp told tile old looked → AddsNone told size looked new → Fails tile old new
   got_none told size tile old looked new made looks none =
       let ready = ready_made told tile old looked made looks.ready in
+      let granted : granted_pages looked.session.client (pages_for size) ≡ granted_pages old.session.client (pages_for size) = ap (max (pages_for size)) looks.name.standard in
       record {
         tiles = ap keys_of none.entries ∙ ready.left;
         shown = λ other. none.shown other ∙ ap (λ (c : Cached G). has_tile c.shown other) looks.same;
         counts = none.counts ∙ ap (λ (c : Cached G). c.counts) looks.same;
+        pages = rw none.bytes (omega (arith, looks.pages, none.pages, granted));
         keeps = keeps_on old looked new (keeps_changed old looked looks.same looks.name) none.keeps;
         failed = none.failed;
       }

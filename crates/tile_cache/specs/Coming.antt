@@ -4,7 +4,7 @@ use Rattle.span_heap.specs.Heap.{size_of}
 use Rattle.tile_source.specs.declared.tile.Tile.{Tile}
 use Rattle.client.specs.Seen.{Seen, is_gone}
 use Rattle.client.specs.Pieces.{Part, AllStay, IsNew, Stays}
-use Rattle.client.specs.Sizes.{wanted}
+use Rattle.client.specs.Sizes.{wanted, pages_for}
 use Rattle.client.specs.Calls.{KeepsName}
 use Rattle.client.specs.Granting.{Session, AllocatesCounted, granted_pages}
 use Rattle.tile_cache.specs.declared.counts.Shown.{Shown}
@@ -48,10 +48,11 @@ module _ {G : Type 0} where
     pub shown : (other : Tile) → has_tile shown_now other ≡ (is_same tile other || has_tile shown_then other)
 
   -- out of memory: no entry came, and each piece stays
-  pub record ComesNone (old new : Session G) (entries_then entries_now : List (Tile × Part)) (shown_then shown_now : List Tile) : Type 0 where
+  pub record ComesNone (size : ℕ) (old new : Session G) (entries_then entries_now : List (Tile × Part)) (shown_then shown_now : List Tile) : Type 0 where
     pub entries : entries_now ≡ entries_then
     pub stay : EntriesStay old.client new.client entries_then
     pub gone : GoneStay old.client new.client
     pub name : KeepsName old.client new.client
+    pub fits : size_of new.client.heap.segments ≤ size_of old.client.heap.segments + granted_pages old.client (pages_for size)
     pub start : new.start ≡ old.start
     pub shown : (other : Tile) → has_tile shown_now other ≡ has_tile shown_then other

@@ -1,5 +1,5 @@
 -- What a get does.
-use Rattle.std.specs.Prelude.{◌≡◌, ℕ, ◌+◌, ◌-◌, ◌<◌, ◌≤◌, Bool, true, false, ◌||◌, List, [], ◌∷◌, ◌++◌, take, drop, length, Some, None}
+use Rattle.std.specs.Prelude.{◌≡◌, ◌⊎◌, ℕ, ◌+◌, ◌-◌, ◌<◌, ◌≤◌, Bool, true, false, ◌||◌, List, [], ◌∷◌, ◌++◌, take, drop, length, Some, None}
 use Rattle.std.specs.Map.{keys_of, lookup}
 use Rattle.span_heap.specs.Heap.{size_of}
 use Rattle.segment.specs.declared.owner.Lock.{Lock}
@@ -8,7 +8,8 @@ use Rattle.tile_source.specs.declared.tile.Tile.{Tile}
 use Rattle.client.specs.Seen.{Seen, is_gone}
 use Rattle.client.specs.Pieces.{Part, bytes_of, part_after_lock}
 use Rattle.client.specs.Sizes.{pages_for}
-use Rattle.client.specs.Calls.{KeepsName, AfterFree}
+use Rattle.client.specs.Calls.{KeepsName, AfterFree, UnlocksRun}
+use Rattle.client.specs.declared.answers.Unlocked.{Unlocked}
 use Rattle.client.specs.Granting.{granted_pages}
 use Rattle.tile_cache.specs.declared.counts.Shown.{Shown}
 use Rattle.tile_cache.specs.declared.counts.Shown.TheVariants.{Kept, First, Rebuilt, Again}
@@ -29,6 +30,11 @@ pages_of client = size_of client.heap.segments
 abbrev pub others_of : Shown → List (Tile × Part) → List (Tile × Part)
 others_of Rebuilt entries = drop 1 entries
 others_of other entries = entries
+
+-- the pages of the first piece were unlocked at a moment, or nothing changed
+abbrev pub UnlocksFirst : ℕ → List (Tile × Part) → Seen → Seen → Type 0
+UnlocksFirst now [] old new = new ≡ old
+UnlocksFirst now (first ∷ others) old new = ((told : Unlocked) × UnlocksRun first.1.run now told old new) ⊎ (new ≡ old)
 
 module _ {G : Type 0} where
   -- the tile has an entry, and the segment of its piece is known to be gone afterwards, or is not
@@ -74,6 +80,7 @@ module _ {G : Type 0} where
     pub tiles : tiles_of new ≡ left old.most tile (tiles_of old)
     pub shown : (other : Tile) → has_tile new.shown other ≡ has_tile old.shown other
     pub counts : new.counts ≡ old.counts
+    pub pages : pages_of new.session.client ≤ pages_of old.session.client + granted_pages old.session.client (pages_for new.tile_bytes)
     pub keeps : KeepsMaking old new
     pub failed : new.failed ≡ true
 
@@ -85,8 +92,9 @@ module _ {G : Type 0} where
   abbrev pub KeepsUse : Cached G → Cached G → Type 0
   KeepsUse old new = (tile_of : Tile → List ℕ) (size : ℕ) → IsUsedWith tile_of size old → IsUsedWith tile_of size new
 
-  -- the first piece was unlocked, where it was locked; the cache stands for the requests that it stood for
-  pub record Rests (old new : Cached G) : Type 0 where
+  -- the first piece was unlocked at a moment, where it was locked; the cache stands for the requests that it stood for
+  pub record Rests (now : ℕ) (old new : Cached G) : Type 0 where
+    pub unlocks : UnlocksFirst now old.entries old.session.client new.session.client
     pub free : AreFree new.entries
     pub tiles : tiles_of new ≡ tiles_of old
     pub runs : runs_of new.entries ≡ runs_of old.entries
@@ -194,6 +202,7 @@ module _ {G : Type 0} where
     pub entries : new.entries ≡ others_of told old.entries
     pub shown : (other : Tile) → has_tile new.shown other ≡ has_tile old.shown other
     pub counts : new.counts ≡ old.counts
+    pub pages : pages_of new.session.client ≤ pages_of old.session.client + granted_pages old.session.client (pages_for size)
     pub bytes : new.tile_bytes ≡ size
     pub keeps : KeepsMaking old new
     pub failed : new.failed ≡ true

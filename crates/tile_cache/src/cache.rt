@@ -134,7 +134,7 @@ impl<G: Granter + Drop> Cache<G> {
     /// Unlocks the piece that is shown, at a moment, if there is one.
     pub fn rest(&mut self, now: u64)
         requires moment { IsMoment now }
-        ensures { Rests self.old self.new }
+        ensures { Rests now self.old self.new }
     {
         let Some((tile, piece)) = self.entries.peek_mru() else {
             return;

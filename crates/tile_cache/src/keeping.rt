@@ -63,7 +63,7 @@ pub(crate) fn come<G: Granter + Drop, H: Threads + Wait + Sync>(
     requires room { length entries.old.entries < entries.old.cap }
     ensures comes { OnOk result (Comes tile size granted.old granted.new entries.old.entries
         entries.new.entries shown.old.keys shown.new.keys) }
-    ensures none { OnErr result (ComesNone granted.old granted.new entries.old.entries
+    ensures none { OnErr result (ComesNone size granted.old granted.new entries.old.entries
         entries.new.entries shown.old.keys shown.new.keys) }
     ensures cap { entries.new.cap ≡ entries.old.cap }
 {

@@ -1,5 +1,6 @@
-use Rattle.std.proofs.Common.{◌≡◌, ◌||◌, sym, ap, ◌∙◌, refl}
+use Rattle.std.proofs.Common.{◌≡◌, ◌||◌, sym, ap, ◌∙◌, refl, arith}
 use Rattle.std.proofs.lemmas.Option.{same_Some}
+use Rattle.client.specs.Sizes.{pages_for}
 use Rattle.tile_cache.proofs.EntriesStay.{all_stay}
 use Rattle.tile_cache.proofs.ClientSteps.{name_on, name_allocated, unmoved_freed}
 use Rattle.tile_cache.proofs.CacheSteps.{wanted_is}
@@ -13,6 +14,7 @@ returns-in_default-clause-none g c = record {
   stay = all_stay c.args.granted.now.client c.allocate.new.self.client c.args.entries.now.entries c.allocate.ensures.stay c.requires.owned.owned;
   gone = gone_stays c.args.granted.now.client c.allocate.new.self.client c.allocate.ensures.gone;
   name = name_none c.args.size c.in_default.field-0 c.args.granted.now c.allocate.new.self c.in_default.ensures.large c.in_default.ensures.out;
+  fits = omega (arith, c.in_default.ensures.no_more);
   start = c.allocate.ensures.start;
   shown = λ other. c.in_ok-reserve.ensures.keys.2 other;
 }
@@ -22,6 +24,8 @@ returns-in-Err-clause-none g c =
     let ok = c.in-Ok.ensures.ok in
     let is : c.in-Err.failed.value.1 ≡ c.in-Ok.piece = ap (λ p. p.1) c.in-Err.ensures.value_returned in
     let frees = rw is at c.free.ensures.frees in
+    let sized = c.in-Ok.ensures.size in
+    let wants : sized.0 ≡ pages_for c.args.size = (wanted_is c.args.size sized.0 sized.1).0 in
     let unmoved = unmoved_freed c.free.result c.in-Ok.piece c.args.now c.allocate.new.self.client c.free.new.self.client frees in
     let gone = gone_stays c.args.granted.now.client c.allocate.new.self.client c.allocate.ensures.gone in
     record {
@@ -29,6 +33,7 @@ returns-in-Err-clause-none g c =
       stay = stay_freed c.free.result ok.0 c.args.now c.in-Ok.piece c.args.granted.now.client c.allocate.new.self.client c.free.new.self.client c.args.entries.now.entries c.requires.owned (wanted_is c.args.size ok.0 ok.1).1 ok.3 c.allocate.ensures.stay frees (rw is at c.free.ensures.stay);
       gone = λ id was. rw unmoved.gone (gone id was);
       name = name_on c.args.granted.now.client c.allocate.new.self.client c.free.new.self.client (name_allocated ok.0 c.in-Ok.piece c.args.granted.now.client c.allocate.new.self.client ok.2) unmoved.goes.name;
+      fits = omega (arith, unmoved.goes.pages, rw wants at sized.2);
       start = ap (λ s. s.start) c.free.ensures.same ∙ c.allocate.ensures.start;
       shown = λ other. c.in_ok-reserve.ensures.keys.2 other;
     }

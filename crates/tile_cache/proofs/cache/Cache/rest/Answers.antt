@@ -5,7 +5,7 @@ use Rattle.tile_cache.proofs.cache.Cache.rest.Goals as goal
 
 pub returns-then-not-locked : goal.returns-then-not-locked
 returns-then-not-locked g c =
-    rw (← c.self.view_is) (rests_same _ (free_all c.self.inside.entries.entries (c.in-Some.tile.now, c.in-Some.piece.now) (sym c.in-Some.ensures) (sym c.if-not-locked.ensures) c.self.invariant.entries.free))
+    rw (← c.self.view_is) (rests_same _ _ (free_all c.self.inside.entries.entries (c.in-Some.tile.now, c.in-Some.piece.now) (sym c.in-Some.ensures) (sym c.if-not-locked.ensures) c.self.invariant.entries.free))
 
 pub unlock-requires-clause-owned : goal.unlock-requires-clause-owned
 unlock-requires-clause-owned g c =
