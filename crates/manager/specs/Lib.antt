@@ -3,3 +3,4 @@ pub mod Tokens
 pub mod Grows
 pub mod Ends
 pub mod Standing
+pub mod Lending

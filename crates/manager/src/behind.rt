@@ -45,6 +45,11 @@ impl<R: Returns, F: Fixed, G: Ledger, E: Ledger> Model for Behind<R, F, G, E> {
         × R.is_taker F.queue b.desk.taker };
 }
 
+/// Shows that the notes of the queue were counted. Only `Behind::settle` makes one, so that no call
+/// of a handle can leave it out.
+#[derive(Drop)]
+pub(crate) struct Settled(());
+
 /// How many entries a state's book has.
 fn entry_count(state: &State) -> u64
     ensures count { result ≡ length state.now.entries }
@@ -70,10 +75,11 @@ impl<R: Returns, F: Fixed, G: Ledger, E: Ledger> Behind<R, F, G, E> {
     }
 
     /// Counts what stands in the queue.
-    pub(crate) fn settle<H: Wait>(&mut self, rt: &H, returns: &R) -> u64
+    pub(crate) fn settle<H: Wait>(&mut self, rt: &H, returns: &R) -> Settled
         requires { F.queue ≡ R.name returns.now }
     {
-        self.desk.settle(rt, returns)
+        self.desk.settle(rt, returns);
+        Settled(())
     }
 
     /// Counts what a pass had seen given, and then a note.
@@ -101,6 +107,7 @@ impl<R: Returns, F: Fixed, G: Ledger, E: Ledger> Behind<R, F, G, E> {
     /// Grants a segment and counts it, or answers None where the book has fewer Grants than `above`.
     pub(crate) fn grant(
         &mut self,
+        _settled: Settled,
         alloc: Global,
         client: u32,
         pages: u32,
@@ -112,7 +119,6 @@ impl<R: Returns, F: Fixed, G: Ledger, E: Ledger> Behind<R, F, G, E> {
         requires pages { (1 ≤ pages) × (pages ≤ MOST_PAGES) }
         requires moment { IsMoment now }
         requires shares { is_some shares.old ≡ F.counts }
-        requires part { IfSome shares.old (λ s. 0 < s.parts) }
         ensures side { IfOk result (λ turn. IfSome turn (λ side. IsGranted pages side)) }
         ensures number { IfOk result (λ turn. IfSome turn (λ side. above < side.id)) }
         ensures counted { IfOk result (λ turn. IfSome turn (λ _.
@@ -131,13 +137,13 @@ impl<R: Returns, F: Fixed, G: Ledger, E: Ledger> Behind<R, F, G, E> {
     /// Reduces to the limit, and counts it.
     pub(crate) fn enforce_counted(
         &mut self,
+        _settled: Settled,
         alloc: Global,
         now: u64,
         shares: &mut Option<Shares<G, E>>,
     ) -> Result<Reduced, NoMemory>
         requires moment { IsMoment now }
         requires shares { is_some shares.old ≡ F.counts }
-        requires part { IfSome shares.old (λ s. 0 < s.parts) }
         ensures ended { IfOk result (λ told. HasEnded F.limit now told) }
         ensures counted { OnOk result (shares.new ≡ option_map with_round shares.old) }
         ensures err { OnErr result (shares.new ≡ shares.old) }
@@ -167,6 +173,20 @@ impl<R: Returns, F: Fixed, G: Ledger, E: Ledger> Behind<R, F, G, E> {
         ensures { IfOk result (λ told. HasEnded (limit_under level F.limit) now told) }
     {
         self.desk.state.pressure(alloc, level, now)
+    }
+
+    /// The same, where a handle asks.
+    pub(crate) fn pressure_settled(
+        &mut self,
+        _settled: Settled,
+        alloc: Global,
+        level: Level,
+        now: u64,
+    ) -> Result<Reduced, NoMemory>
+        requires { IsMoment now }
+        ensures { IfOk result (λ told. HasEnded (limit_under level F.limit) now told) }
+    {
+        self.pressure(alloc, level, now)
     }
 
     /// The state.

@@ -1,8 +1,10 @@
 ghost use Rattle.std.specs.Prelude.{◌≡◌, ℕ, ◌+◌, ◌≤◌, ◌<◌, Bool, true, false, List, [], ◌∷◌, ◌++◌, length, min, ◌^◌, ◌-◌};
 ghost use Rattle.return_queue.specs.Order.{Starts, notes, InOrder, AllTaken, Keeps};
 ghost use Rattle.return_queue.specs.declared.note.Note.{Note};
-ghost use Rattle.manager_state.specs.Calls.{answer_of_back};
+ghost use Rattle.manager_state.specs.Calls.{answer_of_back, stock_after_back};
+ghost use Rattle.std.specs.Borrow.{sem};
 ghost use Rattle.manager.specs.Counted.{count_one, pair_of, CountsNotes, CountsBehind};
+ghost use Rattle.manager.specs.Lending.{LendsState};
 
 use manager_state::{Back, State};
 use return_queue::{Note, Returns};
@@ -20,6 +22,7 @@ pub struct Desk<R: Returns> {
 fn count_back(state: &mut State, note: Note) -> Back
     ensures told { result ≡ answer_of_back note.client note.id state.old.entries }
     ensures book { state.new.entries ≡ count_one state.old.entries (pair_of note) }
+    ensures stock { state.new.stock ≡ stock_after_back note.block state.old.stock }
     ensures limit { state.new.limit ≡ state.old.limit }
 {
     state.back(note.client, note.id, note.block)
@@ -39,6 +42,14 @@ impl<R: Returns> Desk<R> {
         ensures { result.now ≡ self.now.state }
     {
         &self.state
+    }
+
+    /// The state, to be changed. The taker stays.
+    pub fn state_mut(&mut self) -> &mut State
+        ensures* writes_back { sem 𝓛 (LendsState R.row R.Pass.row R.Taker.row self.entry result) }
+        ensures value { result.now ≡ self.old.state }
+    {
+        &mut self.state
     }
 
     /// Takes one note and counts it, and tells whether there was one.

@@ -58,7 +58,6 @@ impl<'m, R: Returns, F: Fixed, G: Ledger, E: Ledger> Model for Handle<'m, R, F, 
 
     ghost invariant = { λ h. R.is_pass F.queue h.pass
         × (is_some h.shares ≡ F.counts)
-        × IfSome h.shares (λ s. 0 < s.parts)
         × IfSome h.shares (Tracks h.base h.grants) };
 }
 
@@ -92,7 +91,6 @@ impl<R: Returns, F: Fixed, G: Ledger, E: Ledger> Manager<R, F, G, E> {
     pub fn handle_with(&self, pass: R::Pass, shares: Shares<G, E>) -> Handle<'_, R, F, G, E>
         requires counts { F.counts ≡ true }
         requires pass { R.is_pass F.queue pass }
-        requires part { 0 < shares.parts }
         ensures { result ≡ record {
           shares = Some shares;
           base = shares.grants;

@@ -111,7 +111,6 @@ impl<R: Returns, F: Fixed, G: Ledger, E: Ledger> Manager<R, F, G, E> {
         requires pages { (1 ≤ pages) × (pages ≤ MOST_PAGES) }
         requires moment { IsMoment now }
         requires shares { is_some shares.old ≡ F.counts }
-        requires part { IfSome shares.old (λ s. 0 < s.parts) }
         ensures side { IfOk result (λ turn. IfSome turn (λ side. IsGranted pages side)) }
         ensures number { IfOk result (λ turn. IfSome turn (λ side. above < side.id)) }
         ensures counted { IfOk result (λ turn. IfSome turn (λ _.
@@ -120,8 +119,8 @@ impl<R: Returns, F: Fixed, G: Ledger, E: Ledger> Manager<R, F, G, E> {
         ensures err { OnErr result (shares.new ≡ shares.old) }
     {
         let mut behind = self.behind.lock(rt);
-        behind.settle(rt, &self.returns);
-        behind.grant(alloc, client, pages, now, above, shares)
+        let settled = behind.settle(rt, &self.returns);
+        behind.grant(settled, alloc, client, pages, now, above, shares)
     }
 
     /// Settles, reduces to the limit and counts it in shares.
@@ -134,14 +133,13 @@ impl<R: Returns, F: Fixed, G: Ledger, E: Ledger> Manager<R, F, G, E> {
     ) -> Result<Reduced, NoMemory>
         requires moment { IsMoment now }
         requires shares { is_some shares.old ≡ F.counts }
-        requires part { IfSome shares.old (λ s. 0 < s.parts) }
         ensures ended { IfOk result (λ told. HasEnded F.limit now told) }
         ensures counted { OnOk result (shares.new ≡ option_map with_round shares.old) }
         ensures err { OnErr result (shares.new ≡ shares.old) }
     {
         let mut behind = self.behind.lock(rt);
-        behind.settle(rt, &self.returns);
-        behind.enforce_counted(alloc, now, shares)
+        let settled = behind.settle(rt, &self.returns);
+        behind.enforce_counted(settled, alloc, now, shares)
     }
 
     /// Settles, and reduces as a level of pressure asks.
@@ -156,8 +154,8 @@ impl<R: Returns, F: Fixed, G: Ledger, E: Ledger> Manager<R, F, G, E> {
         ensures { IfOk result (λ told. HasEnded (limit_under level F.limit) now told) }
     {
         let mut behind = self.behind.lock(rt);
-        behind.settle(rt, &self.returns);
-        behind.pressure(alloc, level, now)
+        let settled = behind.settle(rt, &self.returns);
+        behind.pressure_settled(settled, alloc, level, now)
     }
 
     /// Counts what a pass had seen given, and then a note.

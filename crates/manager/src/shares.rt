@@ -9,7 +9,7 @@ use std::sync::ledger::{Blank, Book, Ledger, Share};
 pub const PARTS: u32 = 128;
 
 /// Shares of a manager's two ledgers, that of its grants and that of its enforcements, cut in the
-/// same parts. Contracts see the parts and what the shares count.
+/// same parts, at least one. Contracts see the parts and what the shares count.
 ///
 /// A handle counts in its own shares, and under the manager's lock in the totals. Whoever has all
 /// parts knows the totals.
@@ -23,14 +23,15 @@ pub struct Shares<G: Ledger, E: Ledger> {
 }
 
 impl<G: Ledger, E: Ledger> Model for Shares<G, E> {
-    ghost use Rattle.std.specs.Prelude.{◌≡◌};
+    ghost use Rattle.std.specs.Prelude.{◌≡◌, ◌<◌};
     ghost use Rattle.manager.specs.Tokens.{Tokens};
 
     ghost Value = { Tokens };
 
     ghost view = { λ s. record { parts = s.parts; grants = s.grants; rounds = s.rounds } };
 
-    ghost invariant = { λ s. (s.of_grants.parts ≡ s.parts) × (s.of_rounds.parts ≡ s.parts)
+    ghost invariant = { λ s. (0 < s.parts)
+        × (s.of_grants.parts ≡ s.parts) × (s.of_rounds.parts ≡ s.parts)
         × (s.of_grants.amount ≡ s.grants) × (s.of_rounds.amount ≡ s.rounds) };
 }
 
@@ -60,6 +61,7 @@ impl<G: Ledger, E: Ledger> Model for Totals<G, E> {
 impl<G: Ledger, E: Ledger> Shares<G, E> {
     /// Shares of these tokens.
     fn of(parts: u32, of_grants: Share<G>, of_rounds: Share<E>) -> Shares<G, E>
+        requires some { 0 < parts }
         requires parts { (of_grants.parts ≡ parts) × (of_rounds.parts ≡ parts) }
         requires amounts { (of_grants.amount ≡ 0) × (of_rounds.amount ≡ 0) }
         ensures { result ≡ record { parts = parts; grants = 0; rounds = 0 } }
@@ -73,9 +75,10 @@ impl<G: Ledger, E: Ledger> Shares<G, E> {
         }
     }
 
-    /// How many parts of the whole these are.
+    /// How many parts of the whole these are, at least one.
     pub fn parts(&self) -> u32
-        ensures { result ≡ self.now.parts }
+        ensures parts { result ≡ self.now.parts }
+        ensures some { 0 < self.now.parts }
     {
         self.parts
     }
@@ -152,7 +155,6 @@ impl<G: Ledger, E: Ledger> Totals<G, E> {
 
     /// Counts a grant, here and in shares.
     fn count_grant(&mut self, shares: &mut Shares<G, E>)
-        requires part { 0 < shares.old.parts }
         requires few { self.old.grants + 1 < 2 ^ 64 }
         ensures totals { self.new ≡ with_grant self.old }
         ensures shares { shares.new ≡ with_grant shares.old }
@@ -164,7 +166,6 @@ impl<G: Ledger, E: Ledger> Totals<G, E> {
 
     /// Counts an enforcement, here and in shares.
     fn count_round(&mut self, shares: &mut Shares<G, E>)
-        requires part { 0 < shares.old.parts }
         requires few { self.old.rounds + 1 < 2 ^ 64 }
         ensures totals { self.new ≡ with_round self.old }
         ensures shares { shares.new ≡ with_round shares.old }
@@ -190,7 +191,6 @@ pub(crate) fn count_grant<G: Ledger, E: Ledger>(
     shares: &mut Option<Shares<G, E>>,
 )
     requires both { is_some totals.old ≡ is_some shares.old }
-    requires part { IfSome shares.old (λ s. 0 < s.parts) }
     requires few { IfSome totals.old (λ t. t.grants + 1 < 2 ^ 64) }
     ensures totals { totals.new ≡ option_map with_grant totals.old }
     ensures shares { shares.new ≡ option_map with_grant shares.old }
@@ -208,7 +208,6 @@ pub(crate) fn count_round<G: Ledger, E: Ledger>(
     shares: &mut Option<Shares<G, E>>,
 )
     requires both { is_some totals.old ≡ is_some shares.old }
-    requires part { IfSome shares.old (λ s. 0 < s.parts) }
     requires few { IfSome totals.old (λ t. t.rounds + 1 < 2 ^ 64) }
     ensures totals { totals.new ≡ option_map with_round totals.old }
     ensures shares { shares.new ≡ option_map with_round shares.old }

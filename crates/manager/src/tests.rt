@@ -1,4 +1,4 @@
-ghost use Rattle.std.specs.Prelude.{◌≡◌, ◌≤◌, ◌<◌, true, false, Some, IfSome};
+ghost use Rattle.std.specs.Prelude.{◌≡◌, ◌≤◌, true, false};
 ghost use Rattle.return_queue.specs.Name.{no_queue};
 ghost use Rattle.manager.specs.declared.shares.TheConstants.{PARTS};
 
@@ -15,6 +15,7 @@ use std::sync::ledger::{Blank, Ledger};
 use std::test::Fail;
 use std::thread;
 use std::thread::Threads;
+use units::NoMemory;
 
 fn told(after: u128, least: Option<u64>, purges: u64) -> Reduced {
     Reduced {
@@ -71,70 +72,81 @@ fn yields<F: Fixed, G: Ledger, E: Ledger, H: Threads + Wait + Sync>(
     Ok(right && has_text(&state, alloc, want)?)
 }
 
-/// Three segments come back to a queue of one note, and are counted in order.
-fn settles<R, F, G, E, H>(
+/// A client is granted segments of one page, and gives them back in their order.
+fn come_back<Q: Granter, H: Threads + Wait + Sync>(
     rt: &H,
     alloc: Global,
-    manager: Manager<R, F, G, E>,
-    pass: R::Pass,
-    shares: Shares<G, E>,
-) -> Result<bool, Fail>
-where
-    R: Returns + Drop,
-    F: Fixed,
-    G: Ledger,
-    E: Ledger,
-    H: Threads + Wait + Sync,
-    requires counts { F.counts ≡ true }
-    requires pass { R.is_pass F.queue pass }
-    requires part { 0 < shares.parts }
+    granter: &mut Q,
+    client: u32,
+    count: u64,
+) -> Result<(), NoMemory>
+    requires { 1 ≤ client }
 {
-    let mut handle = manager.handle_with(pass, shares);
-    let first = handle.grant(rt, alloc, 1, 1, 1)?;
-    let second = handle.grant(rt, alloc, 1, 1, 1)?;
-    let third = handle.grant(rt, alloc, 1, 1, 1)?;
-    handle.give_back(rt, 1, 1, block_of(first));
-    handle.give_back(rt, 1, 2, block_of(second));
-    handle.give_back(rt, 1, 3, block_of(third));
+    let mut sides = Vec::new(alloc);
+    for _ in 0..count {
+        sides.push(granter.grant(rt, alloc, client, 1, 1)?)?;
+    }
+    for side in sides {
+        let id = side.id();
+        granter.give_back(rt, client, id, block_of(side));
+    }
+    Ok(())
+}
+
+/// What came back is counted before a handle reduces.
+fn settles<R: Returns, F: Fixed, G: Ledger, E: Ledger, H: Threads + Wait + Sync>(
+    rt: &H,
+    alloc: Global,
+    handle: &mut Handle<'_, R, F, G, E>,
+) -> Result<bool, Fail> {
     let enforced = handle.enforce(rt, alloc, 5)? == told(0, None, 0);
-    let pressed = handle.pressure(rt, alloc, Level::Critical, 6)? == told(0, None, 0);
-    let (pass, shares) = handle.into_parts();
-    let counts = shares.grants() == 3 && shares.rounds() == 1;
-    let none = manager.drain(rt, pass) == 0;
-    let state = manager.finish();
-    let want =
-        b"grant 1 1 1 64\ngrant 2 1 1 64\ngrant 3 1 1 64\nback 1\nback 2\nback 3\nreduced 64 5 0 -\nreduced 0 6 0 -\n";
-    Ok(enforced && pressed && counts && none && has_text(&state, alloc, want)?)
+    Ok(enforced && handle.pressure(rt, alloc, Level::Critical, 6)? == told(0, None, 0))
 }
 
-/// A segment that came back to a queue of four is counted when the queue is drained.
-fn drains<R, F, G, E, H>(
+/// A handle's segments come back: three and then reductions, or one that the queue still has when
+/// it is drained.
+fn returns<R: Returns, F: Fixed, G: Ledger, E: Ledger, H: Threads + Wait + Sync>(
+    rt: &H,
+    alloc: Global,
+    manager: &Manager<R, F, G, E>,
+    pass: R::Pass,
+    shares: Shares<G, E>,
+    reduces: bool,
+) -> Result<bool, Fail>
+    requires counts { F.counts ≡ true }
+    requires pass { R.is_pass F.queue pass }
+{
+    let (grants, rounds, drained) = if reduces { (3, 1, 0) } else { (1, 0, 1) };
+    let mut handle = manager.handle_with(pass, shares);
+    come_back(rt, alloc, &mut handle, 1, grants)?;
+    let right = !reduces || settles(rt, alloc, &mut handle)?;
+    let (pass, shares) = handle.into_parts();
+    let counted = shares.grants() == grants && shares.rounds() == rounds;
+    Ok(right && counted && manager.drain(rt, pass) == drained)
+}
+
+/// The same, and the book that is left.
+fn returned<R: Returns + Drop, F: Fixed, G: Ledger, E: Ledger, H: Threads + Wait + Sync>(
     rt: &H,
     alloc: Global,
     manager: Manager<R, F, G, E>,
     pass: R::Pass,
     shares: Shares<G, E>,
+    reduces: bool,
 ) -> Result<bool, Fail>
-where
-    R: Returns + Drop,
-    F: Fixed,
-    G: Ledger,
-    E: Ledger,
-    H: Threads + Wait + Sync,
     requires counts { F.counts ≡ true }
     requires pass { R.is_pass F.queue pass }
-    requires part { 0 < shares.parts }
 {
-    let mut handle = manager.handle_with(pass, shares);
-    let side = handle.grant(rt, alloc, 1, 1, 1)?;
-    handle.give_back(rt, 1, 1, block_of(side));
-    let (pass, _shares) = handle.into_parts();
-    let one = manager.drain(rt, pass) == 1;
-    let state = manager.finish();
-    Ok(one && has_text(&state, alloc, b"grant 1 1 1 64\nback 1\n")?)
+    let right = returns(rt, alloc, &manager, pass, shares, reduces)?;
+    let want: &[u8] = if reduces {
+        b"grant 1 1 1 64\ngrant 2 1 1 64\ngrant 3 1 1 64\nback 1\nback 2\nback 3\nreduced 64 5 0 -\nreduced 0 6 0 -\n"
+    } else {
+        b"grant 1 1 1 64\nback 1\n"
+    };
+    Ok(right && has_text(&manager.finish(), alloc, want)?)
 }
 
-/// A client's segments come and go, until so many were granted.
+/// A client's segments come and go, a hundred of them.
 fn work<Q: Granter, H: Threads + Wait + Sync>(
     rt: &H,
     alloc: Global,
@@ -144,22 +156,19 @@ fn work<Q: Granter, H: Threads + Wait + Sync>(
     requires { 1 ≤ client }
 {
     for _ in 0..100u64 {
-        if let Ok(side) = granter.grant(rt, alloc, client, 1, 1) {
-            let id = side.id();
-            granter.give_back(rt, client, id, block_of(side));
-        }
+        let _ = come_back(rt, alloc, &mut granter, client, 1);
     }
     granter
 }
 
-/// Two clients in threads of their own share a manager, and all that they were granted comes back.
-fn share<R, F, G, E, H>(
+/// Two clients in threads of their own share a manager. It ends with all shares together.
+fn shared<R, F, G, E, H>(
     rt: &H,
     alloc: Global,
-    manager: Manager<R, F, G, E>,
+    manager: &Manager<R, F, G, E>,
     mut pass: R::Pass,
     mut whole: Shares<G, E>,
-) -> Result<bool, Fail>
+) -> Option<Shares<G, E>>
 where
     R: Returns + Sync + Send + Drop,
     R::Pass: Send,
@@ -180,21 +189,11 @@ where
         move || -> Handle<'_, R, F, G, E> { work(rt, alloc, one, 1) },
         move || -> Handle<'_, R, F, G, E> { work(rt, alloc, two, 2) },
     );
-    let (first_pass, first) = one.into_parts();
-    let (second_pass, second) = two.into_parts();
-    manager.drain(rt, first_pass);
-    manager.drain(rt, second_pass);
-    let Some(whole) = joined(whole, first) else {
-        return Ok(false);
-    };
-    let Some(whole) = joined(whole, second) else {
-        return Ok(false);
-    };
-    if whole.parts() != PARTS || whole.grants() != 200 {
-        return Ok(false);
-    }
-    let state = manager.finish_with(whole);
-    Ok(state.book().grants() == 200 && state.granted() == 0)
+    let (pass, first) = one.into_parts();
+    manager.drain(rt, pass);
+    let (pass, second) = two.into_parts();
+    manager.drain(rt, pass);
+    joined(joined(whole, first)?, second)
 }
 
 /// Shares and other shares together, where these fit.
@@ -209,6 +208,23 @@ fn joined<G: Ledger, E: Ledger>(
     }
     whole.merge(other);
     Some(whole)
+}
+
+/// The manager that two clients shared has granted what their shares count, and all came back.
+fn ends<R: Returns + Drop, F: Fixed, G: Ledger, E: Ledger>(
+    manager: Manager<R, F, G, E>,
+    whole: Option<Shares<G, E>>,
+) -> bool
+    requires { F.counts ≡ true }
+{
+    let Some(whole) = whole else {
+        return false;
+    };
+    if whole.parts() != PARTS || whole.grants() != 200 {
+        return false;
+    }
+    let state = manager.finish_with(whole);
+    state.book().grants() == 200 && state.granted() == 0
 }
 
 /// What is done with a manager.
@@ -252,10 +268,31 @@ where
         state, returns, taker, grants, rounds,
     );
     match run {
-        Run::Settles => settles(rt, alloc, manager, pass, whole),
-        Run::Drains => drains(rt, alloc, manager, pass, whole),
-        Run::Shares => share(rt, alloc, manager, pass, whole),
+        Run::Settles => returned(rt, alloc, manager, pass, whole, true),
+        Run::Drains => returned(rt, alloc, manager, pass, whole, false),
+        Run::Shares => {
+            let whole = shared(rt, alloc, &manager, pass, whole);
+            Ok(ends(manager, whole))
+        }
     }
+}
+
+/// The same over a queue of this capacity.
+fn over<H: Threads + Wait + Sync>(
+    rt: &H,
+    alloc: Global,
+    limit: u64,
+    keep: u32,
+    capacity: u32,
+    run: Run,
+) -> Result<bool, Fail>
+    requires { (1 ≤ capacity) × (capacity ≤ 4096) }
+{
+    let state = State::new(alloc, limit, keep)?;
+    let made = RuledReturns::new(alloc, capacity)?;
+    let grants = Blank::new(128);
+    let rounds = Blank::new(128);
+    ruled::<RuledReturns, Brand, Brand, Brand, H>(rt, alloc, state, made, grants, rounds, run)
 }
 
 #[test]
@@ -267,60 +304,13 @@ fn pressure_and_enforcement(rt: HostRuntime) -> Result<(), Fail> {
 
 #[test]
 fn returns_are_counted_in_order(rt: HostRuntime) -> Result<(), Fail> {
-    let state = State::new(rt.alloc(), 64, 0)?;
-    let made = RuledReturns::new(rt.alloc(), 1)?;
-    let grants = Blank::new(128);
-    let rounds = Blank::new(128);
-    assert!(rt;
-        ruled::<RuledReturns, Brand, Brand, Brand, HostRuntime>(
-            &rt,
-            rt.alloc(),
-            state,
-            made,
-            grants,
-            rounds,
-            Run::Settles
-        )?
-    );
+    assert!(rt; over(&rt, rt.alloc(), 64, 0, 1, Run::Settles)?);
+    assert!(rt; over(&rt, rt.alloc(), 64, 0, 4, Run::Drains)?);
     Ok(())
 }
 
 #[test]
 fn two_clients_share_a_manager(rt: HostRuntime) -> Result<(), Fail> {
-    let state = State::new(rt.alloc(), 8, 4)?;
-    let made = RuledReturns::new(rt.alloc(), 3)?;
-    let grants = Blank::new(128);
-    let rounds = Blank::new(128);
-    assert!(rt;
-        ruled::<RuledReturns, Brand, Brand, Brand, HostRuntime>(
-            &rt,
-            rt.alloc(),
-            state,
-            made,
-            grants,
-            rounds,
-            Run::Shares
-        )?
-    );
-    Ok(())
-}
-
-#[test]
-fn a_queue_is_drained(rt: HostRuntime) -> Result<(), Fail> {
-    let state = State::new(rt.alloc(), 64, 0)?;
-    let made = RuledReturns::new(rt.alloc(), 4)?;
-    let grants = Blank::new(128);
-    let rounds = Blank::new(128);
-    assert!(rt;
-        ruled::<RuledReturns, Brand, Brand, Brand, HostRuntime>(
-            &rt,
-            rt.alloc(),
-            state,
-            made,
-            grants,
-            rounds,
-            Run::Drains
-        )?
-    );
+    assert!(rt; over(&rt, rt.alloc(), 8, 4, 3, Run::Shares)?);
     Ok(())
 }

@@ -1,35 +1,14 @@
-ghost use Rattle.std.specs.Prelude.{◌≡◌, IfOk};
-ghost use Rattle.segment.specs.declared.owner.Phase.TheVariants.{Held, Idle};
+ghost use Rattle.units.specs.Moment.{IsMoment};
 
 use crate::{Back, Level, State, Tried};
 use lru_reduce::Reduced;
-use segment::{Lock, OwnerSide};
+use segment::Lock;
 use std::alloc::Global;
 use std::test::Fail;
 use units::{LAST_MOMENT, MOST_PAGES, is_moment};
 
 fn crosses_threads<T: Send>(value: T) -> T {
     value
-}
-
-/// A segment that was granted to a client at a moment and left at a stamp.
-fn left(
-    state: &mut State,
-    alloc: Global,
-    client: u32,
-    pages: u32,
-    now: u64,
-    stamp: u64,
-) -> Result<OwnerSide, Fail>
-    ensures { IfOk result (λ side. side.phase ≡ Idle) }
-{
-    let fits = client > 0 && pages > 0 && pages <= MOST_PAGES;
-    if !fits || !is_moment(now) || !is_moment(stamp) {
-        return Err("no grant".into());
-    }
-    let mut owner = state.grant(alloc, client, pages, now)?;
-    owner.unlock(stamp);
-    Ok(owner)
 }
 
 fn told(after: u128, least: Option<u64>, purges: u64) -> Reduced {
@@ -40,106 +19,184 @@ fn told(after: u128, least: Option<u64>, purges: u64) -> Reduced {
     }
 }
 
-/// A grant makes room by the segment that was left, and stands above the limit where that is not enough.
+/// A call on a state, and what it is to answer: of a reduction what is left, the least known use,
+/// and how many were purged.
+#[derive(Clone, Copy)]
+enum Call {
+    /// A grant to a client of so many pages, which then leaves them at this moment.
+    Leave(u32, u32, u64),
+    /// The same, which holds on to them.
+    Hold(u32, u32),
+    Try(u64, Tried),
+    Back(u32, u64, Back),
+    Reduce(u64, u128, Option<u64>, u64),
+    Enforce(u128, Option<u64>, u64),
+    Press(Level, u128, Option<u64>, u64),
+    Limit(u64, u128, Option<u64>, u64),
+    Remove(u32, u64),
+    Granted(u128),
+    Entries(usize),
+}
+
+/// A call at a moment.
+#[derive(Clone, Copy)]
+struct At(u64, Call);
+
+/// Whether a call at a moment answers what it is to answer.
+fn answers(state: &mut State, alloc: Global, now: u64, call: Call) -> Result<bool, Fail>
+    requires { IsMoment now }
+{
+    Ok(match call {
+        Call::Leave(client, pages, stamp) => grants(state, alloc, client, pages, now, stamp)?,
+        Call::Hold(client, pages) => grants(state, alloc, client, pages, now, 0)?,
+        Call::Try(id, want) => state.try_one(id, now) == want,
+        Call::Back(client, id, want) => state.back(client, id, None) == want,
+        Call::Reduce(limit, after, least, purges) => {
+            state.reduce_to(alloc, limit, now)? == told(after, least, purges)
+        }
+        Call::Enforce(after, least, purges) => {
+            state.enforce(alloc, now)? == told(after, least, purges)
+        }
+        Call::Press(level, after, least, purges) => {
+            state.pressure(alloc, level, now)? == told(after, least, purges)
+        }
+        Call::Limit(limit, after, least, purges) => {
+            let right = state.set_limit(alloc, limit, now)? == told(after, least, purges);
+            right && state.limit() == limit
+        }
+        Call::Remove(client, count) => state.remove_client(client) == count,
+        Call::Granted(pages) => state.granted() == pages,
+        Call::Entries(count) => state.book().entries().len() == count,
+    })
+}
+
+/// Grants a segment, and leaves it where the stamp is a moment.
+fn grants(
+    state: &mut State,
+    alloc: Global,
+    client: u32,
+    pages: u32,
+    now: u64,
+    stamp: u64,
+) -> Result<bool, Fail>
+    requires { IsMoment now }
+{
+    if client == 0 || pages == 0 || pages > MOST_PAGES {
+        return Ok(false);
+    }
+    let mut owner = state.grant(alloc, client, pages, now)?;
+    if is_moment(stamp) {
+        owner.unlock(stamp);
+    }
+    Ok(true)
+}
+
+/// Whether calls on a new state answer what they are to answer.
+fn runs(alloc: Global, limit: u64, calls: &[At]) -> Result<bool, Fail> {
+    let mut state = State::new(alloc, limit, 0)?;
+    for &At(now, call) in calls {
+        if !is_moment(now) || !answers(&mut state, alloc, now, call)? {
+            return Ok(false);
+        }
+    }
+    Ok(true)
+}
+
+const REDUCES: [At; 4] = [
+    At(1, Call::Leave(1, 1, 5)),
+    At(1, Call::Leave(1, 1, 8)),
+    At(8, Call::Reduce(0, 1, Some(8), 1)),
+    At(9, Call::Reduce(0, 0, None, 1)),
+];
+
+const YIELDS_TO_PRESSURE: [At; 7] = [
+    At(1, Call::Leave(1, 1, LAST_MOMENT)),
+    At(1, Call::Leave(1, 1, 2)),
+    At(1, Call::Leave(1, 1, 3)),
+    At(1, Call::Leave(1, 1, 4)),
+    At(9, Call::Press(Level::Moderate, 2, Some(4), 2)),
+    At(9, Call::Press(Level::Critical, 1, Some(LAST_MOMENT), 1)),
+    At(
+        LAST_MOMENT,
+        Call::Press(Level::Critical, 1, Some(LAST_MOMENT), 0),
+    ),
+];
+
+/// A grant that is not below the limit has no room, and nothing is reduced where nothing was
+/// granted.
+const ENFORCES: [At; 4] = [
+    At(1, Call::Leave(1, 2, 3)),
+    At(1, Call::Entries(1)),
+    At(4, Call::Enforce(0, None, 1)),
+    At(4, Call::Granted(0)),
+];
+
+/// A purged segment is not counted off again, and one that was counted off is not known any more.
+const GIVES_BACK: [At; 10] = [
+    At(1, Call::Leave(1, 2, 3)),
+    At(5, Call::Try(1, Tried::Used { known: 3 })),
+    At(5, Call::Try(1, Tried::Taken)),
+    At(5, Call::Granted(0)),
+    At(5, Call::Back(1, 1, Back::Purged)),
+    At(6, Call::Leave(1, 1, 6)),
+    At(6, Call::Back(1, 2, Back::Counted)),
+    At(6, Call::Back(1, 2, Back::Unknown)),
+    At(6, Call::Back(1, 9, Back::Unknown)),
+    At(6, Call::Granted(0)),
+];
+
+const REMOVES: [At; 7] = [
+    At(1, Call::Hold(1, 2)),
+    At(1, Call::Hold(2, 1)),
+    At(1, Call::Remove(1, 1)),
+    At(1, Call::Granted(1)),
+    At(1, Call::Back(1, 1, Back::Unknown)),
+    At(3, Call::Limit(0, 1, Some(3), 0)),
+    At(3, Call::Granted(1)),
+];
+
+/// Each of two clients loses its own segments, which were granted in turn.
+const REMOVES_EACH: [At; 10] = [
+    At(1, Call::Leave(1, 1, 1)),
+    At(1, Call::Leave(2, 1, 1)),
+    At(1, Call::Leave(1, 1, 1)),
+    At(1, Call::Leave(2, 1, 1)),
+    At(1, Call::Remove(1, 2)),
+    At(1, Call::Granted(2)),
+    At(1, Call::Remove(1, 0)),
+    At(1, Call::Granted(2)),
+    At(1, Call::Remove(2, 2)),
+    At(1, Call::Granted(0)),
+];
+
+/// A grant makes room by the segment that was left, and stands above the limit where that is not
+/// enough.
 fn makes_room(alloc: Global) -> Result<bool, Fail> {
-    let mut state = State::new(alloc, 4, 0)?;
+    let mut state = crosses_threads(State::new(alloc, 4, 0)?);
     let mut first = state.grant(alloc, 1, 4, 1)?;
-    let _second = state.grant(alloc, 1, 1, 2)?;
+    let held = answers(&mut state, alloc, 2, Call::Hold(1, 1))?;
     let before = state.granted();
     first.unlock(3);
     let third = state.grant(alloc, 2, 5, 4)?;
-    Ok(before == 5 && state.granted() == 6 && third.id() == 3 && first.lock() == Lock::Gone)
-}
-
-fn reduces(alloc: Global) -> Result<bool, Fail> {
-    let mut state = crosses_threads(State::new(alloc, 16384, 0)?);
-    left(&mut state, alloc, 1, 1, 1, 5)?;
-    left(&mut state, alloc, 1, 1, 1, 8)?;
-    Ok(
-        state.reduce_to(alloc, 0, 8)? == told(1, Some(8), 1)
-            && state.reduce_to(alloc, 0, 9)? == told(0, None, 1),
-    )
-}
-
-/// A purged segment is not counted off again, and one that was counted off is not known any more.
-fn gives_back(alloc: Global) -> Result<bool, Fail> {
-    let mut state = State::new(alloc, 16384, 0)?;
-    left(&mut state, alloc, 1, 2, 1, 3)?;
-    let tried = state.try_one(1, 5) == Tried::Used { known: 3 }
-        && state.try_one(1, 5) == Tried::Taken;
-    let purged = state.granted() == 0 && state.back(1, 1, None) == Back::Purged;
-    left(&mut state, alloc, 1, 1, 6, 6)?;
-    let counted = state.back(1, 2, None) == Back::Counted
-        && state.back(1, 2, None) == Back::Unknown;
-    Ok(
-        tried
-            && purged
-            && counted
-            && state.back(1, 9, None) == Back::Unknown
-            && state.granted() == 0,
-    )
-}
-
-fn yields_to_pressure(alloc: Global) -> Result<bool, Fail> {
-    let mut state = State::new(alloc, 5, 0)?;
-    for stamp in [LAST_MOMENT, 2, 3, 4] {
-        left(&mut state, alloc, 1, 1, 1, stamp)?;
-    }
-    let last = Some(LAST_MOMENT);
-    Ok(
-        state.pressure(alloc, Level::Moderate, 9)? == told(2, Some(4), 2)
-            && state.pressure(alloc, Level::Critical, 9)? == told(1, last, 1)
-            && state.pressure(alloc, Level::Critical, LAST_MOMENT)? == told(1, last, 0),
-    )
-}
-
-fn removes(alloc: Global) -> Result<bool, Fail> {
-    let mut state = State::new(alloc, 16384, 0)?;
-    let _first = state.grant(alloc, 1, 2, 1)?;
-    let _second = state.grant(alloc, 2, 1, 1)?;
-    let removed = state.remove_client(1) == 1 && state.granted() == 1;
-    Ok(
-        removed
-            && state.back(1, 1, None) == Back::Unknown
-            && state.set_limit(alloc, 0, 3)? == told(1, Some(3), 0)
-            && state.limit() == 0
-            && state.granted() == 1,
-    )
-}
-
-/// Each of two clients loses its own segments, which were granted in turn.
-fn removes_each(alloc: Global) -> Result<bool, Fail> {
-    let mut state = State::new(alloc, 16384, 0)?;
-    for client in [1, 2, 1, 2] {
-        left(&mut state, alloc, client, 1, 1, 1)?;
-    }
-    let first = state.remove_client(1) == 2 && state.granted() == 2;
-    let again = state.remove_client(1) == 0 && state.granted() == 2;
-    Ok(first && again && state.remove_client(2) == 2 && state.granted() == 0)
-}
-
-/// A grant that is not below the limit has no room, and nothing is reduced where nothing was granted.
-fn enforces(alloc: Global) -> Result<bool, Fail> {
-    let mut state = State::new(alloc, 1, 0)?;
-    left(&mut state, alloc, 1, 2, 1, 3)?;
-    let only_a_grant = state.book().entries().len() == 1;
-    Ok(only_a_grant && state.enforce(alloc, 4)? == told(0, None, 1) && state.granted() == 0)
+    let after = state.granted();
+    Ok(held && before == 5 && after == 6 && third.id() == 3 && first.lock() == Lock::Gone)
 }
 
 #[test]
 fn grants_within_a_limit(rt: HostRuntime) -> Result<(), Fail> {
-    assert!(rt; makes_room(rt.alloc())? && enforces(rt.alloc())?);
+    assert!(rt; makes_room(rt.alloc())? && runs(rt.alloc(), 1, &ENFORCES)?);
     Ok(())
 }
 
 #[test]
 fn reductions(rt: HostRuntime) -> Result<(), Fail> {
-    assert!(rt; reduces(rt.alloc())? && yields_to_pressure(rt.alloc())?);
+    assert!(rt; runs(rt.alloc(), 16384, &REDUCES)? && runs(rt.alloc(), 5, &YIELDS_TO_PRESSURE)?);
     Ok(())
 }
 
 #[test]
 fn segments_come_back(rt: HostRuntime) -> Result<(), Fail> {
-    assert!(rt; gives_back(rt.alloc())? && removes(rt.alloc())? && removes_each(rt.alloc())?);
+    assert!(rt; runs(rt.alloc(), 16384, &GIVES_BACK)? && runs(rt.alloc(), 16384, &REMOVES)?);
+    assert!(rt; runs(rt.alloc(), 16384, &REMOVES_EACH)?);
     Ok(())
 }

@@ -12,7 +12,7 @@ use std::sync::Wait;
 use units::NoMemory;
 
 /// A queue of a fixed capacity that threads share. Its passes and its taker may each be in a thread
-/// of its own.
+/// of its own. After 2^62 notes a `give` may wait for ever.
 #[derive(Drop)]
 pub struct RuledReturns {
     line: Line,

@@ -94,7 +94,7 @@ fn lock_and_unlock(owner: &mut OwnerSide, turns: u64)
 }
 
 #[inline(never)]
-pub(crate) fn exchange_twice(word: &AtomicU64, turns: u64)
+fn exchange_twice(word: &AtomicU64, turns: u64)
     requires { turns ≤ LAST_MOMENT }
 {
     for now in 1..=turns {

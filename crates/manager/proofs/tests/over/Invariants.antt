@@ -1,6 +1,6 @@
 use Rattle.std.proofs.Common.{true}
 use Rattle.return_queue.specs.Ties.{name_of}
-use Rattle.manager.proofs.tests.returns_are_counted_in_order.Given as goal
+use Rattle.manager.proofs.tests.over.Given as goal
 
 abbrev pub ghosts-ruled-F-Fixed : goal.ghosts-ruled-F-Fixed
 ghosts-ruled-F-Fixed g a = record { limit = a.state.limit; handed = a.state.entries; queue = name_of a.made.0.line; counts = true }
