@@ -1,5 +1,6 @@
 -- What was done at a command, whatever happened before it, and what was told of that.
-use Rattle.std.specs.Prelude.{◌≡◌, ◌≢◌, ℕ, ◌<◌, List, ◌++◌, length, drop, None, Option, MatchBool}
+use Rattle.std.specs.Prelude.{◌≡◌, ◌≢◌, ℕ, ◌-◌, ◌<◌, Bool, List, ◌++◌, length, drop, None, Some, Option, MatchBool}
+use Rattle.hex.specs.Hex.{encode_lower}
 use Rattle.segment.specs.Owned.{Owned}
 use Rattle.discard_book.specs.Live.{granted}
 use Rattle.line_text.specs.declared.command.Command.{Command}
@@ -14,11 +15,13 @@ use Rattle.manager_state.specs.declared.answers.Tried.TheVariants as tried
 use Rattle.manager_state.specs.Managed.{Managed}
 use Rattle.manager_state.specs.Calls.{Reduces, Grants, TriesOne, GivesBack, Removes}
 use Rattle.replay_plain.specs.Commands.{pressed}
-use Rattle.replay_plain.specs.Replies.{answer_text, back_answer_text, reduced_words, removed_words, granted_words}
+use Rattle.replay_plain.specs.Replies.{answer_text, back_answer_text, reduced_words, removed_words, granted_words, misuse_text, freed_words, swept_words, released_words, runs_words}
 use Rattle.replay_real.specs.declared.run.RealRun.{RealRun}
 use Rattle.replay_real.specs.declared.owners.Given.{Given}
 use Rattle.replay_real.specs.Owners.{given_at, GaveUp, KeepsClients}
 use Rattle.replay_real.specs.Emptiness.{is_of_heap}
+use Rattle.replay_real.specs.Returning.{ReleasesServed, EmptiesServed}
+use Rattle.replay_real.specs.PieceCalls.{SlotCall, OnPiece, OnClient, LocksSlot, UnlocksSlot, WritesSlot, FreesSlot, SweepsServed, piece_bytes, free_runs}
 
 -- a segment was granted, and its number told
 pub record GrantsAndTells (client pages now : ℕ) (old new : Managed) (before after : List ℕ) : Type 0 where
@@ -105,6 +108,48 @@ pub record RemovesAndTells (client : ℕ) (old new : RealRun) (before after : Li
   pub released : Releases client old.owners new.owners
   pub words : after ≡ before ++ removed_words removed
 
+-- the run differs from what it was in what its clients have alone
+abbrev pub ChangesHeaps : RealRun → RealRun → Type 0
+ChangesHeaps old new = new ≡ record old { heaps = new.heaps }
+
+-- a lock, an unlock or a write of a piece, and its answer was told: misuse where no such piece came
+pub record AnswersPiece (piece : ℕ) (call : Answer → SlotCall) (old new : RealRun) (before after : List ℕ) : Type 0 where
+  pub told : Answer
+  pub calls : OnPiece piece (call told) (told ≡ answer.Misuse) old.heaps new.heaps
+  pub same : ChangesHeaps old new
+  pub words : after ≡ before ++ answer_text told
+
+-- the words of a read: the bytes in hexadecimal digits, or misuse
+abbrev pub shown_words : Option (List ℕ) → List ℕ
+shown_words None = misuse_text
+shown_words (Some bytes) = encode_lower bytes
+
+-- the words of a free: freed or dead, or misuse where no such piece is there
+abbrev pub free_words : Option Bool → List ℕ
+free_words None = misuse_text
+free_words (Some there) = freed_words there
+
+-- a piece was given up at a moment, and that was told
+pub record FreesAndTells (piece at : ℕ) (old new : RealRun) (before after : List ℕ) : Type 0 where
+  pub told : Option Bool
+  pub frees : OnPiece piece (FreesSlot at told) (told ≡ None) old.heaps new.heaps
+  pub same : ChangesHeaps old new
+  pub words : after ≡ before ++ free_words told
+
+-- a client was swept, and it was told how many of its segments were found gone
+pub record SweepsAndTells (client : ℕ) (old new : RealRun) (before after : List ℕ) : Type 0 where
+  pub count : ℕ
+  pub sweeps : OnClient client (SweepsServed count) (count ≡ 0) old.heaps new.heaps
+  pub same : ChangesHeaps old new
+  pub words : after ≡ before ++ swept_words count
+
+-- A client's segments that are all free were handed back, and how many entries that added to the book
+-- was told: one for each that was counted off.
+pub record ReleasesAndTells (client : ℕ) (old new : RealRun) (before after : List ℕ) : Type 0 where
+  pub releases : OnClient client (ReleasesServed old.state new.state) (new.state ≡ old.state) old.heaps new.heaps
+  pub owners : new.owners ≡ old.owners
+  pub words : after ≡ before ++ released_words (length new.state.entries - length old.state.entries)
+
 -- What was done at a command. An owner's command leaves the manager alone. What an allocation and a
 -- release make of the book is not told here: only that it grows.
 abbrev pub Acts : Command → RealRun → RealRun → List ℕ → List ℕ → Type 0
@@ -127,13 +172,20 @@ Acts (command.Limit limit at) old new before after =
     SetsAndTells limit at old.state new.state before after
 Acts (command.Remove client) old new before after = RemovesAndTells client old new before after
 Acts (command.Alloc client size at) old new before after = Unit {0}
-Acts (command.PieceLock piece) old new before after = new.state ≡ old.state
-Acts (command.PieceUnlock piece at) old new before after = new.state ≡ old.state
-Acts (command.PieceWrite piece place bytes) old new before after = new.state ≡ old.state
-Acts (command.PieceRead piece place count) old new before after = new ≡ old
-Acts (command.PieceFree piece at) old new before after = new.state ≡ old.state
-Acts (command.Sweep client) old new before after = new.state ≡ old.state
-Acts (command.Release client) old new before after = Unit {0}
-Acts (command.Runs client) old new before after = new ≡ old
+Acts (command.PieceLock piece) old new before after =
+    AnswersPiece piece LocksSlot old new before after
+Acts (command.PieceUnlock piece at) old new before after =
+    AnswersPiece piece (UnlocksSlot at) old new before after
+Acts (command.PieceWrite piece place bytes) old new before after =
+    AnswersPiece piece (WritesSlot place bytes) old new before after
+Acts (command.PieceRead piece place count) old new before after =
+    (new ≡ old) × (after ≡ before ++ shown_words (piece_bytes old.heaps piece place count))
+Acts (command.PieceFree piece at) old new before after =
+    FreesAndTells piece at old new before after
+Acts (command.Sweep client) old new before after = SweepsAndTells client old new before after
+Acts (command.Release client) old new before after =
+    ReleasesAndTells client old new before after
+Acts (command.Runs client) old new before after =
+    (new ≡ old) × (after ≡ before ++ runs_words (free_runs old.heaps client))
 Acts command.Granted old new before after =
     (new ≡ old) × (after ≡ before ++ granted_words (granted old.state.entries))
