@@ -1,10 +1,8 @@
 -- What a call does on one piece of one client, and that it changes nothing else.
-use Rattle.std.proofs.Common.{◌≡◌, ◌≢◌, ℕ, ◌+◌, ◌-◌, ◌<◌, ◌≤◌, ◌==◌, nat_cmp, nat_lt, Bool, true, false, cond, MatchOption, List, length, get_or, set, Option, Some, None, refl, sym, ap, ◌∙◌, subst, arith, eq-eqb}
+use Rattle.std.proofs.Common.{◌≡◌, ◌≢◌, ℕ, ◌+◌, ◌-◌, ◌<◌, ◌≤◌, nat_cmp, nat_lt, Bool, true, false, cond, MatchOption, List, length, set, Option, Some, None, refl, sym, ap, ◌∙◌, subst, arith}
 use Rattle.std.specs.BTreeMap.{is_at}
-use Rattle.std.proofs.lemmas.Bool.{eqb-true, ne_eqb}
 use Rattle.std.proofs.lemmas.Bool.Decides.{nat_tests}
 use Rattle.std.proofs.lemmas.List.{get_or-set_same, get_or-set_other, get_or_past, set-get_or, length-set}
-use Rattle.client.specs.Seen.{Seen}
 use Rattle.client.specs.Pieces.{Part}
 use Rattle.replay_real.specs.declared.heaps.Heaps.{Heaps}
 use Rattle.replay_real.specs.declared.heaps.Taker.{Taker}
@@ -120,3 +118,11 @@ on_piece number call none old new taker found calls =
 pub on_no_piece : (number : ℕ) (call : SlotCall) (none : Type 0) (heaps : Heaps) → None ≡ taker_at heaps number → none → OnPiece number call none heaps heaps
 on_no_piece number call none heaps found holds =
     subst (λ (o : Option Taker). MatchOption o (none × (heaps ≡ heaps)) (λ t. OnClient t.client (CallsAt t.place call) none heaps heaps)) found (holds, refl)
+
+-- a call on a client changes no standard size
+pub standard_kept : (client : ℕ) (call : ServedClient → ServedClient → Type 0) (none : Type 0) (old new : Heaps) → OnClient client call none old new → new.standard ≡ old.standard
+standard_kept client call none old new w = by_case (served_at old client) w
+  where
+    by_case : (o : Option ServedClient) → MatchOption o (none × (new ≡ old)) (λ s. CallsClient client call s old new) → new.standard ≡ old.standard
+    by_case None w = ap (λ (heaps : Heaps). heaps.standard) w.1
+    by_case (Some was) w = w.standard

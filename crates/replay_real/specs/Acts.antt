@@ -1,5 +1,5 @@
 -- What was done at a command, whatever happened before it, and what was told of that.
-use Rattle.std.specs.Prelude.{◌≡◌, ◌≢◌, ℕ, ◌-◌, ◌<◌, Bool, List, ◌++◌, length, drop, None, Some, Option, MatchBool}
+use Rattle.std.specs.Prelude.{◌≡◌, ◌≢◌, ℕ, ◌-◌, ◌<◌, max, Bool, List, ◌++◌, length, drop, None, Some, Option, MatchBool}
 use Rattle.hex.specs.Hex.{encode_lower}
 use Rattle.segment.specs.Owned.{Owned}
 use Rattle.discard_book.specs.Live.{granted}
@@ -15,12 +15,17 @@ use Rattle.manager_state.specs.declared.answers.Tried.TheVariants as tried
 use Rattle.manager_state.specs.Managed.{Managed}
 use Rattle.manager_state.specs.Calls.{Reduces, Grants, TriesOne, GivesBack, Removes}
 use Rattle.replay_plain.specs.Commands.{pressed}
-use Rattle.replay_plain.specs.Replies.{answer_text, back_answer_text, reduced_words, removed_words, granted_words, misuse_text, freed_words, swept_words, released_words, runs_words}
+use Rattle.replay_plain.specs.Replies.{answer_text, back_answer_text, reduced_words, removed_words, granted_words, misuse_text, freed_words, piece_words, swept_words, released_words, runs_words}
 use Rattle.replay_real.specs.declared.run.RealRun.{RealRun}
 use Rattle.replay_real.specs.declared.owners.Given.{Given}
 use Rattle.replay_real.specs.Owners.{given_at, GaveUp, KeepsClients}
 use Rattle.replay_real.specs.Emptiness.{is_of_heap}
-use Rattle.replay_real.specs.Returning.{ReleasesServed, EmptiesServed}
+use Rattle.span_heap.specs.declared.run.Run.{Run}
+use Rattle.span_heap.specs.Runs.{front_of}
+use Rattle.span_heap.specs.Changes.{whole_of}
+use Rattle.replay_plain.specs.Pieces.{pages_for}
+use Rattle.replay_real.specs.declared.heaps.Heaps.{Heaps}
+use Rattle.replay_real.specs.Returning.{TellsServed, ReleasesServed}
 use Rattle.replay_real.specs.PieceCalls.{SlotCall, OnPiece, OnClient, LocksSlot, UnlocksSlot, WritesSlot, FreesSlot, SweepsServed, piece_bytes, free_runs}
 
 -- a segment was granted, and its number told
@@ -150,8 +155,36 @@ pub record ReleasesAndTells (client : ℕ) (old new : RealRun) (before after : L
   pub owners : new.owners ≡ old.owners
   pub words : after ≡ before ++ released_words (length new.state.entries - length old.state.entries)
 
--- What was done at a command. An owner's command leaves the manager alone. What an allocation and a
--- release make of the book is not told here: only that it grows.
+-- A client was granted a segment for a piece: of as many pages as the piece, or of the standard size
+-- where that is more. The piece is its first pages.
+pub record GrantsPiece (client pages now standard : ℕ) (run : Run) (old new : Managed) : Type 0 where
+  pub side : Owned
+  pub grants : Grants client (max pages standard) now side old new
+  pub front : run ≡ front_of (whole_of side.id side.pages) pages
+
+-- A piece came with a new segment. Before that the client was swept, and the manager was told of each
+-- of its segments that was found gone.
+pub record BeginsPiece (client pages now : ℕ) (run : Run) (old new : RealRun) : Type 0 where
+  pub count : ℕ
+  pub swept : Heaps
+  pub sweeps : OnClient client (SweepsServed count) (count ≡ 0) old.heaps swept
+  pub listed : Managed
+  pub told : Heaps
+  pub tells : OnClient client (TellsServed old.state listed) (listed ≡ old.state) swept told
+  pub grants : GrantsPiece client pages now old.heaps.standard run listed new.state
+
+-- A client was allocated a piece of so many pages, and its number and pages were told: free pages
+-- served it, and the manager was left alone; or it came with a new segment.
+pub record AllocatesAndTells (client pages now : ℕ) (old new : RealRun) (before after : List ℕ) : Type 0 where
+  pub run : Run
+  pub served : Bool
+  pub sized : run.pages ≡ pages
+  pub found : Heaps
+  pub standard : found.standard ≡ old.heaps.standard
+  pub manager : MatchBool served (new ≡ record old { heaps = found }) (BeginsPiece client pages now run (record old { heaps = found }) new)
+  pub words : after ≡ before ++ piece_words (length new.heaps.takers.items) served run
+
+-- What was done at a command, whatever happened before it. An owner's command leaves the manager alone.
 abbrev pub Acts : Command → RealRun → RealRun → List ℕ → List ℕ → Type 0
 Acts (command.Grant client pages at) old new before after =
     GrantsAndTells client pages at old.state new.state before after
@@ -171,7 +204,8 @@ Acts (command.Pressure critical at) old new before after =
 Acts (command.Limit limit at) old new before after =
     SetsAndTells limit at old.state new.state before after
 Acts (command.Remove client) old new before after = RemovesAndTells client old new before after
-Acts (command.Alloc client size at) old new before after = Unit {0}
+Acts (command.Alloc client size at) old new before after =
+    AllocatesAndTells client (pages_for size) at old new before after
 Acts (command.PieceLock piece) old new before after =
     AnswersPiece piece LocksSlot old new before after
 Acts (command.PieceUnlock piece at) old new before after =

@@ -35,7 +35,9 @@ pub(crate) struct Heaps {
 }
 
 impl Heaps {
-    ghost use Rattle.std.specs.Prelude.{◌≡◌, ◌+◌, ◌^◌, false, length, None, [], IfSome, IfOk, option_map};
+    ghost use Rattle.std.specs.Prelude.{◌≡◌, ◌+◌, ◌^◌, false, length, None, [], IfSome, IfOk, OnOk, option_map};
+    ghost use Rattle.span_heap.specs.Runs.{front_of};
+    ghost use Rattle.span_heap.specs.Changes.{whole_of};
     ghost use Rattle.units.specs.Moment.{IsMoment};
     ghost use Rattle.segment.specs.declared.owner.Phase.TheVariants as phase;
     ghost use Rattle.machine.specs.declared.event.Answer.TheVariants as answer;
@@ -59,7 +61,8 @@ impl Heaps {
 
     /// The standard size of a segment in pages.
     pub(crate) fn standard(&self) -> u32
-        ensures { (1 ≤ result) × (result ≤ MOST_PAGES) }
+        ensures standard { result ≡ self.now.standard }
+        ensures sized { (1 ≤ result) × (result ≤ MOST_PAGES) }
     {
         self.standard
     }
@@ -76,7 +79,9 @@ impl Heaps {
     }
 
     /// The number of the piece that came last, or 0 where none came.
-    pub(crate) fn last_piece(&self) -> u64 {
+    pub(crate) fn last_piece(&self) -> u64
+        ensures { result ≡ length self.now.takers.items }
+    {
         self.takers.len() as u64
     }
 
@@ -92,6 +97,8 @@ impl Heaps {
     /// Looks for free pages of a client. Those that it finds are the next piece, locked.
     pub(crate) fn find(&mut self, client: u64, pages: u32) -> Result<Option<Run>, NoMemory>
         requires { (1 ≤ pages) × (pages ≤ MOST_PAGES) }
+        ensures sized { IfOk result (λ found. IfSome found (λ run. run.pages ≡ pages)) }
+        ensures standard { OnOk result (self.new.standard ≡ self.old.standard) }
     {
         let Some(held) = self.clients.get_mut(&client) else {
             return Ok(None);
@@ -118,6 +125,7 @@ impl Heaps {
         requires pages { (1 ≤ pages) × (pages ≤ side.pages) }
         requires most { side.pages ≤ MOST_PAGES }
         requires moment { IsMoment now }
+        ensures { IfOk result (λ run. run ≡ front_of (whole_of side.id side.pages) pages) }
     {
         self.mark(side.id())?;
         let (place, run) = self.adopt_first(alloc, client, side, pages, now)?;
@@ -139,6 +147,7 @@ impl Heaps {
         requires pages { (1 ≤ pages) × (pages ≤ side.pages) }
         requires most { side.pages ≤ MOST_PAGES }
         requires moment { IsMoment now }
+        ensures { IfOk result (λ told. told.1 ≡ front_of (whole_of side.id side.pages) pages) }
     {
         match self.clients.get_mut(&client) {
             Some(held) => {

@@ -10,7 +10,8 @@ ghost use Rattle.replay_plain.specs.Commands.{state_after};
 ghost use Rattle.replay_plain.specs.Replies.{reply_of, runs_words};
 ghost use Rattle.replay_real.specs.Standing.{RealStandsFor, Follows, AppendsWords, Grows};
 ghost use Rattle.replay_real.specs.PieceCalls.{LocksSlot, UnlocksSlot, WritesSlot, piece_bytes, free_runs};
-ghost use Rattle.replay_real.specs.Acts.{AnswersPiece, FreesAndTells, SweepsAndTells, ReleasesAndTells, shown_words};
+ghost use Rattle.replay_plain.specs.Pieces.{pages_for};
+ghost use Rattle.replay_real.specs.Acts.{AllocatesAndTells, BeginsPiece, GrantsPiece, AnswersPiece, FreesAndTells, SweepsAndTells, ReleasesAndTells, shown_words};
 
 use crate::run::RealRun;
 use machine::Answer;
@@ -34,6 +35,8 @@ impl RealRun {
         requires client { IsClient client }
         requires size { IsPieceSize size }
         requires moment { IsMoment at }
+        ensures tells { OnOk result (AllocatesAndTells client (pages_for size) at
+            self.old self.new reply.old.items reply.new.items) }
         ensures words { OnOk result (AppendsWords reply.old.items reply.new.items) }
         ensures book { Grows self.old.state.entries self.new.state.entries }
     {
@@ -59,6 +62,7 @@ impl RealRun {
         requires client { IsClient client }
         requires pages { (1 ≤ pages) × (pages ≤ MOST_SEGMENT_PAGES) }
         requires moment { IsMoment at }
+        ensures begins { IfOk result (λ run. BeginsPiece client pages at run self.old self.new) }
         ensures book { Grows self.old.state.entries self.new.state.entries }
     {
         self.heaps.sweep(client);
@@ -71,6 +75,8 @@ impl RealRun {
         requires client { IsClient client }
         requires pages { (1 ≤ pages) × (pages ≤ MOST_SEGMENT_PAGES) }
         requires moment { IsMoment at }
+        ensures grants { IfOk result (λ run. GrantsPiece client pages at self.old.heaps.standard
+            run self.old.state self.new.state) }
         ensures book { Grows self.old.state.entries self.new.state.entries }
     {
         let whole = pages.max(self.heaps.standard());

@@ -3,6 +3,8 @@ ghost use Rattle.std.specs.Prelude.{◌≡◌, ◌<◌, ◌≤◌, ◌*◌, ◌+
 ghost use Rattle.units.specs.declared.TheConstants.{MOST_PAGES, PAGE};
 ghost use Rattle.units.specs.Moment.{IsMoment};
 ghost use Rattle.segment.specs.declared.owner.Phase.TheVariants as phase;
+ghost use Rattle.span_heap.specs.Runs.{front_of};
+ghost use Rattle.span_heap.specs.Changes.{whole_of};
 ghost use Rattle.client.specs.Seen.{IsUnknown};
 ghost use Rattle.client.specs.Pieces.{Owns, AllStay};
 ghost use Rattle.replay_real.specs.Served.{IsOwned, KeepsSlot};
@@ -75,6 +77,7 @@ impl ScriptClient {
     /// Looks for free pages. Those that it finds are a piece, locked, which comes last.
     pub(crate) fn find(&mut self, pages: u32) -> Result<Option<Run>, NoMemory>
         requires { (1 ≤ pages) × (pages ≤ MOST_PAGES) }
+        ensures { IfOk result (λ found. IfSome found (λ run. run.pages ≡ pages)) }
     {
         self.pieces.reserve(1)?;
         match self.client.find(pages) {
@@ -101,6 +104,7 @@ impl ScriptClient {
         requires pages { (1 ≤ pages) × (pages ≤ side.pages) }
         requires most { side.pages ≤ MOST_PAGES }
         requires moment { IsMoment now }
+        ensures { IfOk result (λ run. run ≡ front_of (whole_of side.id side.pages) pages) }
     {
         if self.client.knows(side.id()) {
             return Err(NoMemory);
@@ -221,7 +225,9 @@ impl ScriptClient {
 }
 
 /// The pages of a piece.
-fn run_of(piece: &Piece) -> Run {
+fn run_of(piece: &Piece) -> Run
+    ensures { result ≡ piece.now.run }
+{
     Run {
         segment: piece.segment(),
         first: piece.first(),

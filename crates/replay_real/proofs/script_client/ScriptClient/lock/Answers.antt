@@ -1,4 +1,4 @@
-use Rattle.std.proofs.Common.{Option, None, Some, refl, subst, set}
+use Rattle.std.proofs.Common.{Option, None, refl, subst, set}
 use Rattle.std.proofs.lemmas.List.{get_or_read}
 use Rattle.client.specs.Pieces.{Part}
 use Rattle.replay_real.specs.Served.{ServedClient, KeepsSlot}
