@@ -6,3 +6,5 @@ pub mod Following
 pub mod Releasing
 pub mod Scripts
 pub mod Serving
+pub mod OnPieces
+pub mod ReturningSteps

@@ -3,10 +3,11 @@ use Rattle.std.specs.Prelude.{◌≡◌, ◌≢◌, ℕ, List, Option, Some, Non
 use Rattle.client.specs.Seen.{Seen}
 use Rattle.client.specs.Pieces.{Part, Owns}
 
--- the client, and its pieces by place
+-- the client, its pieces by place, and how many came before these, all of which went with a removal
 pub record ServedClient : Type 0 where
   pub client : Seen
   pub parts : List (Option Part)
+  pub before : ℕ
 
 -- the client owns the piece, if it is there
 abbrev pub IsOwned : Seen → Option Part → Type 0

@@ -35,13 +35,17 @@ pub(crate) struct Heaps {
 }
 
 impl Heaps {
-    ghost use Rattle.std.specs.Prelude.{◌≡◌, ◌+◌, ◌^◌, false, length, None, [], IfSome, IfOk};
+    ghost use Rattle.std.specs.Prelude.{◌≡◌, ◌+◌, ◌^◌, false, length, None, [], IfSome, IfOk, OnOk, option_map};
+    ghost use Rattle.span_heap.specs.Runs.{front_of};
+    ghost use Rattle.span_heap.specs.Changes.{whole_of};
     ghost use Rattle.units.specs.Moment.{IsMoment};
     ghost use Rattle.segment.specs.declared.owner.Phase.TheVariants as phase;
     ghost use Rattle.machine.specs.declared.event.Answer.TheVariants as answer;
     ghost use Rattle.line_text.specs.Ranges.{IsClient};
     ghost use Rattle.replay_real.specs.Emptiness.{AreEmpty, is_of_heap};
     ghost use Rattle.replay_real.specs.Standing.{Grows};
+    ghost use Rattle.replay_real.specs.Returning.{TellsServed, ReleasesServed, EmptiesServed};
+    ghost use Rattle.replay_real.specs.PieceCalls.{taker_at, OnPiece, OnClient, LocksSlot, UnlocksSlot, WritesSlot, FreesSlot, SweepsServed, piece_bytes, free_runs};
 
     /// No client has anything.
     pub(crate) fn new(alloc: Global, standard: u32) -> Heaps
@@ -57,7 +61,8 @@ impl Heaps {
 
     /// The standard size of a segment in pages.
     pub(crate) fn standard(&self) -> u32
-        ensures { (1 ≤ result) × (result ≤ MOST_PAGES) }
+        ensures standard { result ≡ self.now.standard }
+        ensures sized { (1 ≤ result) × (result ≤ MOST_PAGES) }
     {
         self.standard
     }
@@ -74,13 +79,16 @@ impl Heaps {
     }
 
     /// The number of the piece that came last, or 0 where none came.
-    pub(crate) fn last_piece(&self) -> u64 {
+    pub(crate) fn last_piece(&self) -> u64
+        ensures { result ≡ length self.now.takers.items }
+    {
         self.takers.len() as u64
     }
 
     /// For whom a piece came, if it did.
     fn taker(&self, number: u64) -> Option<Taker>
-        ensures { AreEmpty self.now → result ≡ None }
+        ensures taker { result ≡ taker_at self.now number }
+        ensures empty { AreEmpty self.now → result ≡ None }
     {
         let place = number.checked_sub(1)?;
         self.takers.get(place as usize).copied()
@@ -89,6 +97,8 @@ impl Heaps {
     /// Looks for free pages of a client. Those that it finds are the next piece, locked.
     pub(crate) fn find(&mut self, client: u64, pages: u32) -> Result<Option<Run>, NoMemory>
         requires { (1 ≤ pages) × (pages ≤ MOST_PAGES) }
+        ensures sized { IfOk result (λ found. IfSome found (λ run. run.pages ≡ pages)) }
+        ensures standard { OnOk result (self.new.standard ≡ self.old.standard) }
     {
         let Some(held) = self.clients.get_mut(&client) else {
             return Ok(None);
@@ -115,6 +125,7 @@ impl Heaps {
         requires pages { (1 ≤ pages) × (pages ≤ side.pages) }
         requires most { side.pages ≤ MOST_PAGES }
         requires moment { IsMoment now }
+        ensures { IfOk result (λ run. run ≡ front_of (whole_of side.id side.pages) pages) }
     {
         self.mark(side.id())?;
         let (place, run) = self.adopt_first(alloc, client, side, pages, now)?;
@@ -136,6 +147,7 @@ impl Heaps {
         requires pages { (1 ≤ pages) × (pages ≤ side.pages) }
         requires most { side.pages ≤ MOST_PAGES }
         requires moment { IsMoment now }
+        ensures { IfOk result (λ told. told.1 ≡ front_of (whole_of side.id side.pages) pages) }
     {
         match self.clients.get_mut(&client) {
             Some(held) => {
@@ -166,7 +178,9 @@ impl Heaps {
     }
 
     /// Locks a piece: misuse where it is not there, or is locked.
-    pub(crate) fn lock(&mut self, number: u64) -> Answer {
+    pub(crate) fn lock(&mut self, number: u64) -> Answer
+        ensures locks { OnPiece number (LocksSlot result) (result ≡ answer.Misuse) self.old self.new }
+    {
         let Some(taker) = self.taker(number) else {
             return Answer::Misuse;
         };
@@ -179,6 +193,8 @@ impl Heaps {
     /// Unlocks a piece at a moment: misuse where it is not there, or is not locked.
     pub(crate) fn unlock(&mut self, number: u64, now: u64) -> Answer
         requires { IsMoment now }
+        ensures unlocks { OnPiece number (UnlocksSlot now result) (result ≡ answer.Misuse)
+            self.old self.new }
         ensures misuse { AreEmpty self.old → result ≡ answer.Misuse }
         ensures empty { AreEmpty self.old → AreEmpty self.new }
     {
@@ -195,6 +211,8 @@ impl Heaps {
     /// where they pass its pages.
     pub(crate) fn write(&mut self, number: u64, at: u64, bytes: &[u8]) -> Answer
         requires { at + length bytes.now ≤ 2 ^ 32 }
+        ensures writes { OnPiece number (WritesSlot at bytes.now result) (result ≡ answer.Misuse)
+            self.old self.new }
         ensures misuse { AreEmpty self.old → result ≡ answer.Misuse }
         ensures empty { AreEmpty self.old → AreEmpty self.new }
     {
@@ -211,6 +229,8 @@ impl Heaps {
     /// locked, or where they pass its pages.
     pub(crate) fn read(&self, number: u64, at: u64, count: u64) -> Option<&[u8]>
         requires { at + count ≤ 2 ^ 32 }
+        ensures shown { option_map (λ bytes. bytes.now) result
+            ≡ piece_bytes self.now number at count }
         ensures none { AreEmpty self.now → result ≡ None }
         ensures few { IfSome result (λ bytes. length bytes.now ≤ count) }
     {
@@ -225,6 +245,7 @@ impl Heaps {
     /// where it is not there.
     pub(crate) fn free(&mut self, number: u64, now: u64) -> Option<bool>
         requires { IsMoment now }
+        ensures frees { OnPiece number (FreesSlot now result) (result ≡ None) self.old self.new }
         ensures none { AreEmpty self.old → result ≡ None }
         ensures empty { AreEmpty self.old → AreEmpty self.new }
     {
@@ -237,7 +258,9 @@ impl Heaps {
 
     /// Looks at each segment of a client with no locked page. Those that are gone leave, and it answers
     /// how many.
-    pub(crate) fn sweep(&mut self, client: u64) -> u64 {
+    pub(crate) fn sweep(&mut self, client: u64) -> u64
+        ensures { OnClient client (SweepsServed result) (result ≡ 0) self.old self.new }
+    {
         match self.clients.get_mut(&client) {
             Some(held) => held.sweep(),
             None => 0,
@@ -246,7 +269,9 @@ impl Heaps {
 
     /// Tells a manager of each segment of a client that left since it was found gone.
     pub(crate) fn tell(&mut self, client: u64, state: &mut State)
-        ensures { Grows state.old.entries state.new.entries }
+        ensures tells { OnClient client (TellsServed state.old state.new)
+            (state.new ≡ state.old) self.old self.new }
+        ensures book { Grows state.old.entries state.new.entries }
     {
         match self.clients.get_mut(&client) {
             Some(held) => held.tell(state),
@@ -254,20 +279,23 @@ impl Heaps {
         }
     }
 
-    /// Gives each segment of a client that is all free back to a manager, and answers how many it
-    /// counted off.
-    pub(crate) fn release(&mut self, client: u64, state: &mut State) -> u64
-        ensures { Grows state.old.entries state.new.entries }
+    /// Gives each segment of a client that is all free back to a manager.
+    pub(crate) fn release(&mut self, client: u64, state: &mut State)
+        ensures releases { OnClient client (ReleasesServed state.old state.new)
+            (state.new ≡ state.old) self.old self.new }
+        ensures book { Grows state.old.entries state.new.entries }
     {
         match self.clients.get_mut(&client) {
             Some(held) => held.release(state),
-            None => 0,
+            None => {}
         }
     }
 
     /// A client's pieces go, and all its segments are given up and handed to a manager.
     pub(crate) fn empty(&mut self, client: u64, state: &mut State)
-        ensures { Grows state.old.entries state.new.entries }
+        ensures empties { OnClient client (EmptiesServed state.old state.new)
+            (state.new ≡ state.old) self.old self.new }
+        ensures book { Grows state.old.entries state.new.entries }
     {
         match self.clients.get_mut(&client) {
             Some(held) => held.empty(state),
@@ -277,7 +305,8 @@ impl Heaps {
 
     /// The free runs of a client as they are now, the oldest first.
     pub(crate) fn runs(&self, alloc: Global, client: u64) -> Result<Runs, NoMemory>
-        ensures { IfOk result (λ runs. AreEmpty self.now → runs ≡ []) }
+        ensures runs { IfOk result (λ runs. runs ≡ free_runs self.now client) }
+        ensures empty { IfOk result (λ runs. AreEmpty self.now → runs ≡ []) }
     {
         match self.clients.get(&client) {
             Some(held) => held.runs(alloc),

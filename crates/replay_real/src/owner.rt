@@ -167,7 +167,7 @@ fn holds(locks: &PageLocks, place: u64, count: u64) -> bool
 }
 
 /// Puts bytes at a place.
-fn put(old: &mut [u8], place: usize, bytes: &[u8])
+pub(crate) fn put(old: &mut [u8], place: usize, bytes: &[u8])
     requires { place + length bytes.now ≤ length old.old }
     ensures { old.new ≡ put place bytes.now old.old }
 {

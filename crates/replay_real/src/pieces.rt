@@ -9,6 +9,9 @@ ghost use Rattle.replay_plain.specs.State.{ReplayState};
 ghost use Rattle.replay_plain.specs.Commands.{state_after};
 ghost use Rattle.replay_plain.specs.Replies.{reply_of, runs_words};
 ghost use Rattle.replay_real.specs.Standing.{RealStandsFor, Follows, AppendsWords, Grows};
+ghost use Rattle.replay_real.specs.PieceCalls.{LocksSlot, UnlocksSlot, WritesSlot, piece_bytes, free_runs};
+ghost use Rattle.replay_plain.specs.Pieces.{pages_for};
+ghost use Rattle.replay_real.specs.Acts.{AllocatesAndTells, BeginsPiece, GrantsPiece, AnswersPiece, FreesAndTells, SweepsAndTells, ReleasesAndTells, shown_words};
 
 use crate::run::RealRun;
 use machine::Answer;
@@ -32,6 +35,8 @@ impl RealRun {
         requires client { IsClient client }
         requires size { IsPieceSize size }
         requires moment { IsMoment at }
+        ensures tells { OnOk result (AllocatesAndTells client (pages_for size) at
+            self.old self.new reply.old.items reply.new.items) }
         ensures words { OnOk result (AppendsWords reply.old.items reply.new.items) }
         ensures book { Grows self.old.state.entries self.new.state.entries }
     {
@@ -57,6 +62,7 @@ impl RealRun {
         requires client { IsClient client }
         requires pages { (1 ≤ pages) × (pages ≤ MOST_SEGMENT_PAGES) }
         requires moment { IsMoment at }
+        ensures begins { IfOk result (λ run. BeginsPiece client pages at run self.old self.new) }
         ensures book { Grows self.old.state.entries self.new.state.entries }
     {
         self.heaps.sweep(client);
@@ -69,6 +75,8 @@ impl RealRun {
         requires client { IsClient client }
         requires pages { (1 ≤ pages) × (pages ≤ MOST_SEGMENT_PAGES) }
         requires moment { IsMoment at }
+        ensures grants { IfOk result (λ run. GrantsPiece client pages at self.old.heaps.standard
+            run self.old.state self.new.state) }
         ensures book { Grows self.old.state.entries self.new.state.entries }
     {
         let whole = pages.max(self.heaps.standard());
@@ -79,6 +87,8 @@ impl RealRun {
 
     /// Adds the reply to a lock of a piece.
     pub(crate) fn lock_piece(&mut self, piece: u64, reply: &mut Vec<u8>) -> Result<(), NoMemory>
+        ensures tells { OnOk result (AnswersPiece piece LocksSlot
+            self.old self.new reply.old.items reply.new.items) }
         ensures words { OnOk result (AppendsWords reply.old.items reply.new.items) }
         ensures state { self.new.state ≡ self.old.state }
     {
@@ -95,7 +105,10 @@ impl RealRun {
         requires { IsMoment at }
         ensures follows { OnOk result ((state : ReplayState) → RealStandsFor self.old state
             → Follows self.new reply.old.items reply.new.items
-            (reply_of state (command.PieceUnlock piece at)) (state_after state (command.PieceUnlock piece at))) }
+            (reply_of state (command.PieceUnlock piece at))
+            (state_after state (command.PieceUnlock piece at))) }
+        ensures tells { OnOk result (AnswersPiece piece (UnlocksSlot at)
+            self.old self.new reply.old.items reply.new.items) }
         ensures words { OnOk result (AppendsWords reply.old.items reply.new.items) }
         ensures state { self.new.state ≡ self.old.state }
     {
@@ -113,7 +126,10 @@ impl RealRun {
         requires { place + length bytes.now ≤ 2 ^ 32 }
         ensures follows { OnOk result ((state : ReplayState) → RealStandsFor self.old state
             → Follows self.new reply.old.items reply.new.items
-            (reply_of state (command.PieceWrite piece place bytes.now)) (state_after state (command.PieceWrite piece place bytes.now))) }
+            (reply_of state (command.PieceWrite piece place bytes.now))
+            (state_after state (command.PieceWrite piece place bytes.now))) }
+        ensures tells { OnOk result (AnswersPiece piece (WritesSlot place bytes.now)
+            self.old self.new reply.old.items reply.new.items) }
         ensures words { OnOk result (AppendsWords reply.old.items reply.new.items) }
         ensures state { self.new.state ≡ self.old.state }
     {
@@ -132,6 +148,8 @@ impl RealRun {
         ensures follows { OnOk result ((state : ReplayState) → RealStandsFor self.now state
             → reply.new.items
             ≡ reply.old.items ++ reply_of state (command.PieceRead piece place count)) }
+        ensures tells { OnOk result (reply.new.items ≡ reply.old.items
+            ++ shown_words (piece_bytes self.now.heaps piece place count)) }
         ensures words { OnOk result (AppendsWords reply.old.items reply.new.items) }
     {
         match self.heaps.read(piece, place, count) {
@@ -150,7 +168,10 @@ impl RealRun {
         requires { IsMoment at }
         ensures follows { OnOk result ((state : ReplayState) → RealStandsFor self.old state
             → Follows self.new reply.old.items reply.new.items
-            (reply_of state (command.PieceFree piece at)) (state_after state (command.PieceFree piece at))) }
+            (reply_of state (command.PieceFree piece at))
+            (state_after state (command.PieceFree piece at))) }
+        ensures tells { OnOk result (FreesAndTells piece at
+            self.old self.new reply.old.items reply.new.items) }
         ensures words { OnOk result (AppendsWords reply.old.items reply.new.items) }
         ensures state { self.new.state ≡ self.old.state }
     {
@@ -162,6 +183,8 @@ impl RealRun {
 
     /// Adds the reply to a sweep of a client.
     pub(crate) fn swept(&mut self, client: u64, reply: &mut Vec<u8>) -> Result<(), NoMemory>
+        ensures tells { OnOk result (SweepsAndTells client
+            self.old self.new reply.old.items reply.new.items) }
         ensures words { OnOk result (AppendsWords reply.old.items reply.new.items) }
         ensures state { self.new.state ≡ self.old.state }
     {
@@ -170,10 +193,14 @@ impl RealRun {
 
     /// Adds the reply to the release of a client: its segments that are all free are given back.
     pub(crate) fn released(&mut self, client: u64, reply: &mut Vec<u8>) -> Result<(), NoMemory>
+        ensures tells { OnOk result (ReleasesAndTells client
+            self.old self.new reply.old.items reply.new.items) }
         ensures words { OnOk result (AppendsWords reply.old.items reply.new.items) }
         ensures book { Grows self.old.state.entries self.new.state.entries }
     {
-        push_released(reply, self.heaps.release(client, &mut self.state))
+        let before = self.entries().len();
+        self.heaps.release(client, &mut self.state);
+        push_released(reply, (self.entries().len() - before) as u64)
     }
 
     /// Adds the free runs of a client.
@@ -185,6 +212,8 @@ impl RealRun {
     ) -> Result<(), NoMemory>
         ensures follows { OnOk result ((state : ReplayState) → RealStandsFor self.now state
             → reply.new.items ≡ reply.old.items ++ reply_of state (command.Runs client)) }
+        ensures tells { OnOk result (reply.new.items
+            ≡ reply.old.items ++ runs_words (free_runs self.now.heaps client)) }
         ensures words { OnOk result (AppendsWords reply.old.items reply.new.items) }
     {
         let runs = self.heaps.runs(alloc, client)?;

@@ -1,13 +1,18 @@
 //! A client of a script with the pieces that came to it.
-ghost use Rattle.std.specs.Prelude.{◌≡◌, ◌<◌, ◌≤◌, ◌*◌, ◌+◌, ◌^◌, ℕ, false, length, Some, None, IfSome, IfNone, IfOk, OnOk, slice_index_or};
+ghost use Rattle.std.specs.Prelude.{◌≡◌, ◌<◌, ◌≤◌, ◌*◌, ◌+◌, ◌^◌, ℕ, false, length, Some, None, IfSome, IfNone, IfOk, OnOk, slice_index_or, option_map, []};
 ghost use Rattle.units.specs.declared.TheConstants.{MOST_PAGES, PAGE};
 ghost use Rattle.units.specs.Moment.{IsMoment};
 ghost use Rattle.segment.specs.declared.owner.Phase.TheVariants as phase;
+ghost use Rattle.span_heap.specs.Runs.{front_of};
+ghost use Rattle.span_heap.specs.Changes.{whole_of};
 ghost use Rattle.client.specs.Seen.{IsUnknown};
 ghost use Rattle.client.specs.Pieces.{Owns, AllStay};
 ghost use Rattle.replay_real.specs.Served.{IsOwned, KeepsSlot};
+ghost use Rattle.replay_real.specs.PieceCalls.{CallsAt, LocksSlot, UnlocksSlot, WritesSlot, FreesSlot, SweepsServed, bytes_shown, slot_at, is_shown};
+ghost use Rattle.replay_real.specs.Returning.{HandsBack, HandsInAll, ReleasesFree, TellsAll, KeepsParts};
 ghost use Rattle.replay_real.specs.Standing.{Grows};
 
+use crate::owner::put;
 use client::{Client, Piece, Unlocked};
 use machine::Answer;
 use manager_state::{Back, State};
@@ -15,7 +20,7 @@ use segment::{GiveUp, Lock, OwnerSide};
 use span_heap::{Run, Runs};
 use std::alloc::Global;
 use std::marker::Model;
-use units::NoMemory;
+use units::{NoMemory, PAGE};
 
 /// A client of a script, and the pieces that came to it, by place: none where one was given up.
 #[derive(Drop)]
@@ -31,7 +36,8 @@ impl Model for ScriptClient {
 
     ghost Value = { ServedClient };
 
-    ghost view = { λ s. record { client = s.client; parts = s.pieces.items } };
+    ghost view = { λ s.
+        record { client = s.client; parts = s.pieces.items; before = s.before } };
 
     ghost invariant = { λ s. IsServed s.client s.pieces.items };
 }
@@ -56,7 +62,9 @@ impl ScriptClient {
 
     /// Where the piece at a place stands among those that did not go with a removal.
     fn index(&self, place: u64) -> Option<usize>
-        ensures { IfSome result (λ index. index < length self.now.parts) }
+        ensures some { IfSome result (λ index. (index < length self.now.parts)
+            × (place ≡ self.now.before + index)) }
+        ensures none { IfNone result (slot_at self.now place ≡ None) }
     {
         let index = place.checked_sub(self.before)?;
         if index < self.pieces.len() as u64 {
@@ -69,6 +77,7 @@ impl ScriptClient {
     /// Looks for free pages. Those that it finds are a piece, locked, which comes last.
     pub(crate) fn find(&mut self, pages: u32) -> Result<Option<Run>, NoMemory>
         requires { (1 ≤ pages) × (pages ≤ MOST_PAGES) }
+        ensures { IfOk result (λ found. IfSome found (λ run. run.pages ≡ pages)) }
     {
         self.pieces.reserve(1)?;
         match self.client.find(pages) {
@@ -95,6 +104,7 @@ impl ScriptClient {
         requires pages { (1 ≤ pages) × (pages ≤ side.pages) }
         requires most { side.pages ≤ MOST_PAGES }
         requires moment { IsMoment now }
+        ensures { IfOk result (λ run. run ≡ front_of (whole_of side.id side.pages) pages) }
     {
         if self.client.knows(side.id()) {
             return Err(NoMemory);
@@ -116,7 +126,9 @@ impl ScriptClient {
     }
 
     /// Locks the piece at a place: misuse where it is not there, or is locked.
-    pub(crate) fn lock(&mut self, place: u64) -> Answer {
+    pub(crate) fn lock(&mut self, place: u64) -> Answer
+        ensures locks { CallsAt place (LocksSlot result) self.old self.new }
+    {
         let Some(index) = self.index(place) else {
             return Answer::Misuse;
         };
@@ -126,6 +138,7 @@ impl ScriptClient {
     /// Unlocks the piece at a place at a moment: misuse where it is not there, or is not locked.
     pub(crate) fn unlock(&mut self, place: u64, now: u64) -> Answer
         requires { IsMoment now }
+        ensures unlocks { CallsAt place (UnlocksSlot now result) self.old self.new }
     {
         let Some(index) = self.index(place) else {
             return Answer::Misuse;
@@ -137,6 +150,7 @@ impl ScriptClient {
     /// locked, or where they pass its pages.
     pub(crate) fn write(&mut self, place: u64, at: u64, bytes: &[u8]) -> Answer
         requires { at + length bytes.now ≤ 2 ^ 32 }
+        ensures writes { CallsAt place (WritesSlot at bytes.now result) self.old self.new }
     {
         let Some(index) = self.index(place) else {
             return Answer::Misuse;
@@ -148,59 +162,61 @@ impl ScriptClient {
     /// there or not locked, or where they pass its pages.
     pub(crate) fn read(&self, place: u64, at: u64, count: u64) -> Option<&[u8]>
         requires { at + count ≤ 2 ^ 32 }
-        ensures { IfSome result (λ bytes. length bytes.now ≤ count) }
+        ensures few { IfSome result (λ bytes. length bytes.now ≤ count) }
+        ensures shown { option_map (λ bytes. bytes.now) result
+            ≡ bytes_shown self.now.client (slot_at self.now place) at count }
     {
         let index = self.index(place)?;
-        let Some(piece) = &self.pieces[index] else {
-            return None;
-        };
-        if !piece.locked() {
-            return None;
-        }
-        let bytes = self.client.bytes(piece);
-        if at + count > bytes.len() as u64 {
-            return None;
-        }
-        let (start, count) = (at as usize, count as usize);
-        Some(&bytes[start..start + count])
+        read_slot(&self.client, &self.pieces[index], at, count)
     }
 
     /// Gives up the piece at a place, at a moment, and answers whether its segment was not known to be
     /// gone. None where it is not there.
     pub(crate) fn free(&mut self, place: u64, now: u64) -> Option<bool>
         requires { IsMoment now }
+        ensures frees { CallsAt place (FreesSlot now result) self.old self.new }
     {
         let index = self.index(place)?;
         free_slot(&mut self.client, &mut self.pieces[index], now)
     }
 
     /// Looks at each segment with no locked page. Those that are gone leave, and it answers how many.
-    pub(crate) fn sweep(&mut self) -> u64 {
+    pub(crate) fn sweep(&mut self) -> u64
+        ensures sweeps { SweepsServed result self.old self.new }
+    {
         self.client.sweep()
     }
 
     /// Tells a manager of each segment that left since it was found gone.
     pub(crate) fn tell(&mut self, state: &mut State)
-        ensures { Grows state.old.entries state.new.entries }
+        ensures tells { TellsAll self.old.client state.old self.new.client state.new }
+        ensures parts { KeepsParts self.old self.new }
+        ensures book { Grows state.old.entries state.new.entries }
     {
         tell_all(&mut self.client, state);
     }
 
-    /// Gives each segment that is all free back to a manager, and answers how many it counted off.
-    pub(crate) fn release(&mut self, state: &mut State) -> u64
-        ensures { Grows state.old.entries state.new.entries }
+    /// Gives each segment that is all free back to a manager.
+    pub(crate) fn release(&mut self, state: &mut State)
+        ensures releases { ReleasesFree self.old.client state.old self.new.client state.new }
+        ensures parts { KeepsParts self.old self.new }
+        ensures book { Grows state.old.entries state.new.entries }
     {
-        release_free(&mut self.client, state)
+        release_free(&mut self.client, state);
     }
 
     /// The free runs as they are now, the oldest first.
-    pub(crate) fn runs(&self, alloc: Global) -> Result<Runs, NoMemory> {
+    pub(crate) fn runs(&self, alloc: Global) -> Result<Runs, NoMemory>
+        ensures { IfOk result (λ runs. runs ≡ self.now.client.heap.free) }
+    {
         self.client.runs(alloc)
     }
 
     /// Its pieces go, and all its segments are given up and handed to a manager.
     pub(crate) fn empty(&mut self, state: &mut State)
-        ensures { Grows state.old.entries state.new.entries }
+        ensures hands { HandsInAll self.old.client state.old self.new.client state.new }
+        ensures parts { self.new.parts ≡ [] }
+        ensures book { Grows state.old.entries state.new.entries }
     {
         self.before = self.count();
         self.pieces.clear();
@@ -209,7 +225,9 @@ impl ScriptClient {
 }
 
 /// The pages of a piece.
-fn run_of(piece: &Piece) -> Run {
+fn run_of(piece: &Piece) -> Run
+    ensures { result ≡ piece.now.run }
+{
     Run {
         segment: piece.segment(),
         first: piece.first(),
@@ -220,7 +238,8 @@ fn run_of(piece: &Piece) -> Run {
 /// Locks a piece: misuse where it is not there, or is locked.
 fn lock_slot(client: &mut Client, slot: &mut Option<Piece>) -> Answer
     requires { IsOwned client.old slot.old }
-    ensures { KeepsSlot client.old client.new slot.old slot.new }
+    ensures keeps { KeepsSlot client.old client.new slot.old slot.new }
+    ensures locks { LocksSlot result slot.old slot.new client.old client.new }
 {
     let Some(piece) = slot else {
         return Answer::Misuse;
@@ -238,7 +257,8 @@ fn lock_slot(client: &mut Client, slot: &mut Option<Piece>) -> Answer
 fn unlock_slot(client: &mut Client, slot: &mut Option<Piece>, now: u64) -> Answer
     requires owned { IsOwned client.old slot.old }
     requires moment { IsMoment now }
-    ensures { KeepsSlot client.old client.new slot.old slot.new }
+    ensures keeps { KeepsSlot client.old client.new slot.old slot.new }
+    ensures unlocks { UnlocksSlot now result slot.old slot.new client.old client.new }
 {
     let Some(piece) = slot else {
         return Answer::Misuse;
@@ -257,32 +277,45 @@ fn unlock_slot(client: &mut Client, slot: &mut Option<Piece>, now: u64) -> Answe
 fn write_slot(client: &mut Client, slot: &Option<Piece>, at: u64, bytes: &[u8]) -> Answer
     requires owned { IsOwned client.old slot.now }
     requires near { at + length bytes.now ≤ 2 ^ 32 }
-    ensures { KeepsSlot client.old client.new slot.now slot.now }
+    ensures keeps { KeepsSlot client.old client.new slot.now slot.now }
+    ensures writes { WritesSlot at bytes.now result slot.now slot.now client.old client.new }
 {
     let Some(piece) = slot else {
         return Answer::Misuse;
     };
-    if !piece.locked() {
+    if !is_shown(piece, at, bytes.len() as u64) {
         return Answer::Misuse;
     }
-    if put_within(client.bytes_mut(piece), at, bytes) {
-        Answer::Written
-    } else {
-        Answer::Misuse
-    }
+    put(client.bytes_mut(piece), at as usize, bytes);
+    Answer::Written
 }
 
-/// Puts bytes at a place, where they do not pass the end.
-fn put_within(pages: &mut [u8], at: u64, bytes: &[u8]) -> bool
-    requires { at + length bytes.now ≤ 2 ^ 32 }
-    ensures { length pages.new ≡ length pages.old }
+/// The bytes of a piece, `count` of them from the byte `at` on. None where it is not there or not locked,
+/// or where they pass its pages.
+fn read_slot<'a>(client: &'a Client, slot: &Option<Piece>, at: u64, count: u64) -> Option<&'a [u8]>
+    requires owned { IsOwned client.now slot.now }
+    requires near { at + count ≤ 2 ^ 32 }
+    ensures few { IfSome result (λ bytes. length bytes.now ≤ count) }
+    ensures shown { option_map (λ bytes. bytes.now) result
+        ≡ bytes_shown client.now slot.now at count }
 {
-    let (start, count) = (at as usize, bytes.len());
-    if start + count > pages.len() {
-        return false;
+    let Some(piece) = slot else {
+        return None;
+    };
+    if !is_shown(piece, at, count) {
+        return None;
     }
-    pages[start..start + count].copy_from_slice(bytes);
-    true
+    let bytes = client.bytes(piece);
+    let (start, count) = (at as usize, count as usize);
+    Some(&bytes[start..start + count])
+}
+
+/// Whether so many bytes from the byte `at` on lie within a piece, and it is locked.
+fn is_shown(piece: &Piece, at: u64, count: u64) -> bool
+    requires { at + count ≤ 2 ^ 32 }
+    ensures { result ≡ is_shown piece.now at count }
+{
+    piece.locked() && at + count <= PAGE * u64::from(piece.pages())
 }
 
 /// Gives a piece up at a moment, and answers whether its segment was not known to be gone. None where it
@@ -290,7 +323,8 @@ fn put_within(pages: &mut [u8], at: u64, bytes: &[u8]) -> bool
 fn free_slot(client: &mut Client, slot: &mut Option<Piece>, now: u64) -> Option<bool>
     requires owned { IsOwned client.old slot.old }
     requires moment { IsMoment now }
-    ensures { KeepsSlot client.old client.new slot.old slot.new }
+    ensures keeps { KeepsSlot client.old client.new slot.old slot.new }
+    ensures frees { FreesSlot now result slot.old slot.new client.old client.new }
 {
     match slot.take() {
         Some(piece) => Some(client.free(piece, now)),
@@ -300,6 +334,7 @@ fn free_slot(client: &mut Client, slot: &mut Option<Piece>, now: u64) -> Option<
 
 /// Tells a manager of each segment that left since it was found gone.
 fn tell_all(client: &mut Client, state: &mut State)
+    ensures tells { TellsAll client.old state.old client.new state.new }
     ensures stay { AllStay client.old client.new }
     ensures book { Grows state.old.entries state.new.entries }
 {
@@ -309,46 +344,43 @@ fn tell_all(client: &mut Client, state: &mut State)
     }
 }
 
-/// Gives each segment that is all free back, and answers how many were counted off.
-fn release_free(client: &mut Client, state: &mut State) -> u64
+/// Gives each segment that is all free back.
+fn release_free(client: &mut Client, state: &mut State)
+    ensures releases { ReleasesFree client.old state.old client.new state.new }
     ensures stay { AllStay client.old client.new }
     ensures book { Grows state.old.entries state.new.entries }
 {
-    let mut counted = 0u64;
     while let Some(side) = client.take_free() {
-        counted = counted.saturating_add(hand_back(client, state, side));
+        hand_back(client, state, side);
     }
-    counted
 }
 
 /// Gives up all segments, and hands them in.
 fn hand_in_all(client: &mut Client, state: &mut State)
-    ensures { Grows state.old.entries state.new.entries }
+    ensures hands { HandsInAll client.old state.old client.new state.new }
+    ensures book { Grows state.old.entries state.new.entries }
 {
     while let Some(side) = client.take_any() {
         hand_back(client, state, side);
     }
 }
 
-/// Gives up a side that was taken out, and hands it to a manager. It answers how many segments that
-/// counts off, 1 or 0. A side that is gone is kept.
-fn hand_back(client: &mut Client, state: &mut State, side: OwnerSide) -> u64
+/// Gives up a side that was taken out, and hands it to a manager. It answers what the manager does. A side
+/// that is gone is kept.
+fn hand_back(client: &mut Client, state: &mut State, side: OwnerSide) -> Back
     requires taken { 1 ≤ client.old.taken }
     requires unknown { IsUnknown side.id client.old }
+    ensures hands { HandsBack side result client.old client.new state.old state.new }
     ensures stay { AllStay client.old client.new }
     ensures leases { client.new.leases ≡ client.old.leases }
     ensures book { Grows state.old.entries state.new.entries }
 {
     let (number, id) = (client.number(), side.id());
     match side.give_up() {
-        GiveUp::Whole(block) => match state.back(number, id, Some(block)) {
-            Back::Counted => 1,
-            Back::Purged | Back::Unknown => 0,
-        },
+        GiveUp::Whole(block) => state.back(number, id, Some(block)),
         GiveUp::Gone(side) => {
             client.keep_gone(side);
-            state.back(number, id, None);
-            0
+            state.back(number, id, None)
         }
     }
 }

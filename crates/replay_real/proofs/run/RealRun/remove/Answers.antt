@@ -12,4 +12,4 @@ returns-clause-book c =
     (grows_on c.args.self.now.state.entries c.remove_client-removed.new.self.entries c.release.new.self.state.entries
     (grows_removes c.args.client c.remove_client-removed.result c.args.self.now.state c.remove_client-removed.new.self c.remove_client-removed.ensures)
     c.release.ensures.book)
-    c.empty.ensures
+    c.empty.ensures.book

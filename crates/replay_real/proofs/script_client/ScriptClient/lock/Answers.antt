@@ -1,14 +1,30 @@
-use Rattle.std.proofs.Common.{Option, None, subst}
+use Rattle.std.proofs.Common.{Option, None, refl, subst, set}
 use Rattle.std.proofs.lemmas.List.{get_or_read}
 use Rattle.client.specs.Pieces.{Part}
-use Rattle.replay_real.specs.Served.{KeepsSlot}
+use Rattle.replay_real.specs.Served.{ServedClient, KeepsSlot}
+use Rattle.replay_real.specs.PieceCalls.{CallsAt, LocksSlot}
 use Rattle.replay_real.proofs.Serving.{served_set}
+use Rattle.replay_real.proofs.OnPieces.{calls_set, calls_none}
 use Rattle.replay_real.proofs.script_client.ScriptClient.lock.Goals as goal
 
 pub invariant_of-self : goal.invariant_of-self
 invariant_of-self c =
-    let within = rw (← c.self.view_is) at c.in-Some.ensures in
-    served_set c.self.inside.client c.lock_slot.new.client c.self.inside.pieces.items c.in-Some.index c.lock_slot.new.slot within
+    let at = rw (← c.self.view_is) at c.in-Some.ensures.some in
+    served_set c.self.inside.client c.lock_slot.new.client c.self.inside.pieces.items c.in-Some.index c.lock_slot.new.slot at.0
     (subst (λ (was : Option Part). KeepsSlot c.self.inside.client c.lock_slot.new.client was c.lock_slot.new.slot)
-    (get_or_read c.self.inside.pieces.items c.in-Some.index c.index_mut.result.now within c.index_mut.ensures.value None) c.lock_slot.ensures)
+    (get_or_read c.self.inside.pieces.items c.in-Some.index c.index_mut.result.now at.0 c.index_mut.ensures.value None) c.lock_slot.ensures.keeps)
     c.self.invariant
+
+pub returns : goal.returns
+returns c =
+    let at = rw (← c.self.view_is) at c.in-Some.ensures.some in
+    let new : ServedClient = record { client = c.lock_slot.new.client; parts = set c.self.inside.pieces.items c.in-Some.index c.lock_slot.new.slot; before = c.self.inside.before } in
+    record {
+      locks = subst (λ (old : ServedClient). CallsAt c.args.place (LocksSlot c.lock_slot.result) old new) c.self.view_is
+          (calls_set c.args.place c.in-Some.index c.lock_slot.new.slot (LocksSlot c.lock_slot.result) _ new at.1 at.0 refl refl
+          (subst (λ (was : Option Part). LocksSlot c.lock_slot.result was c.lock_slot.new.slot c.self.inside.client c.lock_slot.new.client)
+          (get_or_read c.self.inside.pieces.items c.in-Some.index c.index_mut.result.now at.0 c.index_mut.ensures.value None) c.lock_slot.ensures.locks));
+    }
+
+pub returns-in_default : goal.returns-in_default
+returns-in_default c = record { locks = calls_none c.args.place _ c.args.self.now c.in_default.ensures.none (refl, refl, refl) }
