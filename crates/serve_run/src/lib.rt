@@ -15,6 +15,8 @@ mod worker;
 mod workers;
 
 pub use laws::law_each_grant_ends;
+pub use request_text::{Request, RequestFault, Requests, read_requests};
+pub use serve_plain::{Generated, Replies, ServeCfg, Tally, gen_line, generate};
 pub use serve_session::{ServedClient, ServedClients};
 pub use served::{Served, report_text};
 pub use serving::serve;
