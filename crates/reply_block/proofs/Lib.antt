@@ -1,0 +1,5 @@
+pub mod Lodging
+pub mod Places
+pub mod Spaces
+pub mod Sparing
+pub mod Walks
