@@ -195,7 +195,7 @@ fn other_words_are_usage(rt: HostRuntime) -> Result<(), Fail> {
         "replay --limit 1048577",
         "replay --keep 257",
         "replay --keep 4 --keep=4",
-        "replay --standard 64",
+        "replay --standard 513",
         "tile a.pgm 0 0",
         "tile a.pgm 0 0 0 --side 64 --side 64",
         "serve",
