@@ -88,4 +88,5 @@ def peak(folder, command, given):
         done = subprocess.run(
             [compiled(folder, "peak", PEAK), *command], stdin=file, stdout=subprocess.DEVNULL, stderr=subprocess.PIPE, check=True
         )
-    return int(done.stderr)
+    # (the program's own report stands before it)
+    return int(done.stderr.split()[-1])
