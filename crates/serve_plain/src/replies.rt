@@ -1,11 +1,13 @@
 ghost use Rattle.std.specs.Prelude.{◌≡◌};
 
+use reply_block::Joined;
 use std::marker::Model;
 
-/// The replies of a served run, seen by contracts as the list of their bytes.
+/// The replies of a served run, seen by contracts as the list of their bytes. They lie in one
+/// allocation, in which each was written in its place.
 #[derive(Debug, Drop)]
 pub struct Replies {
-    bytes: Vec<u8>,
+    joined: Joined,
 }
 
 impl Model for Replies {
@@ -13,21 +15,21 @@ impl Model for Replies {
 
     ghost Value = { List ℕ };
 
-    ghost view = { λ r. r.bytes.items };
+    ghost view = { λ r. r.joined };
 }
 
 impl Replies {
     /// The replies that are these bytes.
-    pub fn from_vec(bytes: Vec<u8>) -> Replies
-        ensures { result ≡ bytes.items }
+    pub fn from_joined(joined: Joined) -> Replies
+        ensures { result ≡ joined }
     {
-        Replies { bytes }
+        Replies { joined }
     }
 
     /// Their bytes.
     pub fn as_slice(&self) -> &[u8]
         ensures { result.now ≡ self.now }
     {
-        &self.bytes
+        self.joined.as_slice()
     }
 }

@@ -1,5 +1,6 @@
 use crate::{Replies, ServeCfg, Tally, gen_line, gen_settings, generate, report_bytes};
 use discard_book::{Book, Entry};
+use reply_block::Joined;
 use std::alloc::{AllocError, Global};
 use std::test::Fail;
 
@@ -72,7 +73,8 @@ fn a_workload_is_drawn_from_0(rt: HostRuntime) -> Result<(), Fail> {
 
 #[test]
 fn replies_are_told_in_a_line(rt: HostRuntime) -> Result<(), Fail> {
-    let replies = Replies::from_vec(ones(rt.alloc(), 512 * 65_551)?);
+    let bytes = ones(rt.alloc(), 512 * 65_551)?;
+    let replies = Replies::from_joined(Joined::copy_of(rt.alloc(), &bytes)?);
     let line = gen_line(rt.alloc(), 0, &replies)?;
     assert!(rt; line.as_slice() == b"gen 0 tiles 512 bytes 33562112 sum 33562112\n".as_slice());
     Ok(())

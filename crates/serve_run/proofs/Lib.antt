@@ -1,5 +1,5 @@
 pub mod ListsGrow
 pub mod NumbersDrawnOnce
-pub mod RepliesWait
+pub mod PlacesAreDealt
 pub mod WhatIsLive
 pub mod RunServed

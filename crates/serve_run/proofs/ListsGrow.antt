@@ -1,5 +1,5 @@
 -- What holds at each place of a list, and of one element more at its end.
-use Rattle.std.proofs.Common.{◌≡◌, ℕ, ◌+◌, ◌<◌, ◌≤◌, List, [], ◌∷◌, ◌++◌, length, get_or, sym, ap, ◌∙◌, subst, arith, inl, inr}
+use Rattle.std.proofs.Common.{◌≡◌, ℕ, ◌+◌, ◌<◌, ◌≤◌, List, [], ◌∷◌, ◌++◌, length, get_or, refl, sym, ap, ◌∙◌, subst, arith, inl, inr}
 use Rattle.std.proofs.lemmas.Bool.{cases_eq}
 use Rattle.std.proofs.Math.ListN.{get_or-append}
 use Rattle.std.proofs.Math.Seq.{get_or-append_seam}
@@ -10,8 +10,17 @@ use Rattle.manager.specs.Tokens.{Tokens}
 use Rattle.serve_session.specs.declared.served.ServedClient.{ServedClient}
 use Rattle.serve_session.specs.Running.{RunValue}
 use Rattle.serve_session.specs.Served.{IsServed, all_grants}
-use Rattle.serve_session.specs.Tiling.{asked_by, replies_to}
-use Rattle.serve_run.specs.Working.{AreJobs, WasServed, HasTaken}
+use Rattle.serve_session.specs.Places.{numbers_of}
+use Rattle.reply_block.specs.Framed.{Placed}
+use Rattle.request_text.specs.declared.request.Request.{Request}
+use Rattle.serve_run.specs.Dealing.{numbers_for}
+use Rattle.serve_run.specs.Working.{HasTaken}
+
+-- so many desks were made: none has a place yet, and each has room for those of its client's requests
+pub record HasDesks {D : Type 0} (places : D → List Placed) (capacity : D → ℕ) (requests : List Request) (n : ℕ) (desks : List D) : Type 0 where
+  pub all : length desks ≡ n
+  pub none : (i : ℕ) (d : D) → i < n → numbers_of (places (get_or desks i d)) ≡ []
+  pub room : (i : ℕ) (d : D) → i < n → length (numbers_for requests (i + 1) (length requests)) ≤ capacity (get_or desks i d)
 
 pub each_more : {A : Type 0} (P : ℕ → A → Type 0) (xs ys : List A) (x : A) (n : ℕ) → ys ≡ xs ++ x ∷ [] → length xs ≡ n
     → ((i : ℕ) (d : A) → i < n → P i (get_or xs i d)) → P n x → (i : ℕ) (d : A) → i < n + 1 → P i (get_or ys i d)
@@ -26,29 +35,49 @@ each_more {A} P xs ys x n is long so_far last i d low =
     ] in
     subst (λ zs. P i (get_or zs i d)) (sym is) (whole i d low)
 
+-- no end was taken in yet
+pub none_taken : (run : RunValue) (start : Tokens) (clients : List ServedClient) → clients ≡ [] → HasTaken run 0 start start clients
+none_taken run start clients none = subst (HasTaken run 0 start start) (sym none) (record {
+  clients_are = refl;
+  served = λ i d low. absurd (omega arith);
+  parts = omega arith;
+  grants = omega arith;
+  few = omega arith;
+  rounds = refl;
+})
+
 -- the end of one client more was taken in
-pub taken_more : {B : Type 0} (bytes : B → List ℕ) (run : RunValue) (n : ℕ) (start before after : Tokens) (blocks blocks' : List B) (clients clients' : List ServedClient)
-    (block : B) (served : ServedClient) → blocks' ≡ blocks ++ block ∷ [] → clients' ≡ clients ++ served ∷ []
+pub taken_more : (run : RunValue) (n : ℕ) (start before after : Tokens) (clients clients' : List ServedClient) (served : ServedClient)
+    → clients' ≡ clients ++ served ∷ []
     → after.parts ≡ before.parts + 1 → after.grants ≡ before.grants + served.tally.grants → after.rounds ≡ before.rounds + 0
-    → served.tally.grants ≤ MOST_REQUESTS → HasTaken bytes run n start before blocks clients → WasServed run (n + 1) (bytes block) served
-    → HasTaken bytes run (n + 1) start after blocks' clients'
-taken_more bytes run n start before after blocks blocks' clients clients' block served is_block is_served parts grants rounds few so_far this =
+    → served.tally.grants ≤ MOST_REQUESTS → HasTaken run n start before clients → IsServed run.cfg (n + 1) run.requests served
+    → HasTaken run (n + 1) start after clients'
+taken_more run n start before after clients clients' served is_served parts grants rounds few so_far this =
     let all : all_grants clients' ≡ all_grants clients + served.tally.grants =
     ap all_grants is_served ∙ sum_by_push (λ (c : ServedClient). c.tally.grants) clients served in
     record {
-      blocks_are = ap length is_block ∙ length_push blocks block ∙ omega (arith, so_far.blocks_are);
       clients_are = ap length is_served ∙ length_push clients served ∙ omega (arith, so_far.clients_are);
-      answer = each_more (λ i b. bytes b ≡ replies_to run.tiling (asked_by (i + 1) run.requests)) blocks blocks' block n is_block so_far.blocks_are so_far.answer this.replies_are;
-      served = each_more (λ i s. IsServed run.cfg (i + 1) run.requests s) clients clients' served n is_served so_far.clients_are so_far.served this.served_is;
+      served = each_more (λ i s. IsServed run.cfg (i + 1) run.requests s) clients clients' served n is_served so_far.clients_are so_far.served this;
       parts = omega (arith, parts, so_far.parts);
       grants = omega (arith, grants, so_far.grants, all);
       few = omega (arith, all, so_far.few, few);
       rounds = omega (arith, rounds, so_far.rounds);
     }
 
--- one job more, for the next client
-pub jobs_more : {A : Type 0} (client : A → ℕ) (n : ℕ) (xs ys : List A) (x : A) → AreJobs client n xs → ys ≡ xs ++ x ∷ [] → client x ≡ n + 1 → AreJobs client (n + 1) ys
-jobs_more client n xs ys x so_far is next = record {
+-- no desk was made yet
+pub no_desks : {D : Type 0} (places : D → List Placed) (capacity : D → ℕ) (requests : List Request) (desks : List D) → desks ≡ [] → HasDesks places capacity requests 0 desks
+no_desks places capacity requests desks none = record {
+  all = ap length none;
+  none = λ i d low. absurd (omega arith);
+  room = λ i d low. absurd (omega arith);
+}
+
+-- one desk more, for the next client
+pub desks_more : {D : Type 0} (places : D → List Placed) (room : D → ℕ) (requests : List Request) (n : ℕ) (xs ys : List D) (x : D)
+    → HasDesks places room requests n xs → ys ≡ xs ++ x ∷ []
+    → numbers_of (places x) ≡ [] → length (numbers_for requests (n + 1) (length requests)) ≤ room x → HasDesks places room requests (n + 1) ys
+desks_more places room requests n xs ys x so_far is none fits = record {
   all = ap length is ∙ length_push xs x ∙ omega (arith, so_far.all);
-  each = each_more (λ i job. client job ≡ i + 1) xs ys x n is so_far.all so_far.each next;
+  none = each_more (λ i desk. numbers_of (places desk) ≡ []) xs ys x n is so_far.all so_far.none none;
+  room = each_more (λ i desk. length (numbers_for requests (i + 1) (length requests)) ≤ room desk) xs ys x n is so_far.all so_far.room fits;
 }

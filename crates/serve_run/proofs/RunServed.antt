@@ -1,12 +1,10 @@
 -- What a run comes to, of what its workers ended with and of the removal of its clients.
-use Rattle.std.proofs.Common.{◌≡◌, ℕ, ◌+◌, ◌-◌, ◌≤◌, Bool, true, false, ◌&&◌, cond, List, [], ◌∷◌, ◌++◌, map, length, All, refl, sym, ap, ◌∙◌, subst, arith, append_assoc}
+use Rattle.std.proofs.Common.{◌≡◌, ℕ, ◌+◌, ◌-◌, ◌≤◌, Bool, true, false, ◌&&◌, cond, List, [], ◌∷◌, ◌++◌, map, refl, sym, ap, ◌∙◌, subst, arith, append_assoc}
 use Rattle.std.specs.List.{count_by}
 use Rattle.std.proofs.lemmas.List.Sums.{sum_by-append}
 use Rattle.discard_book.specs.declared.entry.Entry.{Entry}
 use Rattle.discard_book.specs.declared.entry.Entry.TheVariants as entry
 use Rattle.discard_book.specs.Live.{is_grant}
-use Rattle.request_text.specs.declared.request.Request.{Request}
-use Rattle.request_text.specs.Requests.{IsRequest, AreRequests}
 use Rattle.tile_source.specs.Tile.{reply}
 use Rattle.manager_state.specs.Managed.{Managed}
 use Rattle.manager.specs.Tokens.{Tokens}
@@ -14,10 +12,9 @@ use Rattle.manager.specs.Grows.{carries, is_round, all_carry, Grows}
 use Rattle.serve_plain.specs.Reply.{tiles_of}
 use Rattle.serve_session.specs.declared.served.ServedClient.{ServedClient}
 use Rattle.serve_session.specs.Running.{RunValue}
-use Rattle.serve_session.specs.Tiling.{TilingValue, replies_to}
+use Rattle.serve_session.specs.Tiling.{replies_to}
 use Rattle.serve_session.specs.Served.{AreServed, all_grants}
 use Rattle.serve_run.specs.Removing.{GainsBacks, RemovesAll}
-use Rattle.serve_run.specs.Gathering.{AreOf, Answer}
 use Rattle.serve_run.specs.Working.{HasTaken}
 use Rattle.serve_run.specs.Served.{Serves}
 
@@ -66,39 +63,10 @@ grows_is l m a b p q xs ws ys grown limit_is granted_is rounds_are before =
       rounds_are = subst (λ (n : ℕ). q ≤ count_by (is_round n) grown.more) limit_is (subst (λ (n : ℕ). n ≤ count_by (is_round l) grown.more) rounds_are grown.rounds_are);
     }
 
--- the requests of a run are of its clients
-of_clients : (clients : ℕ) (requests : List Request) → All (IsRequest clients) requests → AreOf clients requests
-of_clients clients requests each = λ k d within. let given = each k d within in (given.0, given.1)
-
--- What the workers of all clients ended with is known of the requests that are gathered: they are of the clients that have a block.
-pub known_of : {B : Type 0} (bytes : B → List ℕ) (run : RunValue) (start now : Tokens) (blocks bs : List B) (clients : List ServedClient) (rs us : List Request)
-    → HasTaken bytes run run.cfg.clients start now blocks clients → bs ≡ blocks → rs ≡ us → us ≡ run.requests
-    → AreRequests run.cfg.clients run.requests → AreOf (length bs) rs
-known_of {B} bytes run start now blocks bs clients rs us taken blocks_are slice_is requests_are lawful =
-    subst (λ (xs : List B). AreOf (length xs) rs) (sym blocks_are)
-    (subst (λ (k : ℕ). AreOf k rs) (sym taken.blocks_are)
-    (subst (λ (xs : List Request). AreOf run.cfg.clients xs) (sym (slice_is ∙ requests_are)) (of_clients run.cfg.clients run.requests lawful.each)))
-
--- and the block of each client has the replies to its requests
-pub answers_of : {B : Type 0} (bytes : B → List ℕ) (run : RunValue) (start now : Tokens) (blocks bs : List B) (clients : List ServedClient) (rs us : List Request) (t : TilingValue)
-    → HasTaken bytes run run.cfg.clients start now blocks clients → bs ≡ blocks → rs ≡ us → us ≡ run.requests → t ≡ run.tiling
-    → Answer bytes t rs bs
-answers_of {B} bytes run start now blocks bs clients rs us t taken blocks_are slice_is requests_are tiling_is =
-    subst (λ (xs : List B). Answer bytes t rs xs) (sym blocks_are)
-    (subst (λ (xs : List Request). Answer bytes t xs blocks) (sym (slice_is ∙ requests_are))
-    (subst (λ (v : TilingValue). Answer bytes v run.requests blocks) (sym tiling_is)
-    (λ c d within. taken.answer c d (omega (arith, within, taken.blocks_are)))))
-
--- what was gathered are the replies to the run's requests
-pub gathered : (t s : TilingValue) (rs us requests : List Request) (out made : List ℕ)
-    → out ≡ made → made ≡ replies_to t (tiles_of rs) → t ≡ s → rs ≡ us → us ≡ requests → out ≡ replies_to s (tiles_of requests)
-gathered t s rs us requests out made out_is made_is tiling_is slice_is requests_are =
-    out_is ∙ made_is ∙ ap (λ (v : TilingValue). replies_to v (tiles_of rs)) tiling_is ∙ ap (λ (xs : List Request). replies_to s (tiles_of xs)) (slice_is ∙ requests_are)
-
 -- The run was served: its clients by their workers, and nothing is granted once all clients are removed.
-pub run_served : {B : Type 0} (bytes : B → List ℕ) (run : RunValue) (start shares : Tokens) (blocks : List B) (clients : List ServedClient)
+pub run_served : (run : RunValue) (start shares : Tokens) (clients : List ServedClient)
     (limit : ℕ) (handed : List Entry) (finished ended : Managed) (replies : List ℕ) (ends : List ServedClient)
-    → HasTaken bytes run run.cfg.clients start shares blocks clients
+    → HasTaken run run.cfg.clients start shares clients
     → start.grants ≡ 0 → start.rounds ≡ run.cfg.rounds
     → run.tiling.side ≡ run.cfg.side
     → limit ≡ run.cfg.limit → handed ≡ []
@@ -107,7 +75,7 @@ pub run_served : {B : Type 0} (bytes : B → List ℕ) (run : RunValue) (start s
     → replies ≡ replies_to run.tiling (tiles_of run.requests)
     → ends ≡ clients
     → Serves run.cfg run.tiling.image run.requests (record { replies = replies; clients = ends; state = ended })
-run_served bytes run start shares blocks clients limit handed finished ended replies ends taken no_grants all_rounds side limit_is handed_is limited grown removed replies_are ends_are =
+run_served run start shares clients limit handed finished ended replies ends taken no_grants all_rounds side limit_is handed_is limited grown removed replies_are ends_are =
     record {
       replies = replies_are ∙ ap (λ (n : ℕ). reply run.tiling.image n (tiles_of run.requests)) side;
       clients = subst (λ (cs : List ServedClient). AreServed run.cfg run.requests cs) (sym ends_are) (record { all = taken.clients_are; each = taken.served });
@@ -125,14 +93,12 @@ run_served bytes run start shares blocks clients limit handed finished ended rep
     }
 
 -- what was taken in of all clients, when the shares before were all but theirs
-pub taken_from : {B : Type 0} (bytes : B → List ℕ) (run : RunValue) (n whole : ℕ) (start now : Tokens) (blocks : List B) (clients : List ServedClient)
-    → HasTaken bytes run n start now blocks clients → start.parts + n ≡ whole → start.grants ≡ 0 → start.rounds ≡ run.cfg.rounds
-    → HasTaken bytes run n (record { parts = whole - n; grants = 0; rounds = run.cfg.rounds }) now blocks clients
-taken_from bytes run n whole start now blocks clients taken parts_are no_grants all_rounds =
+pub taken_from : (run : RunValue) (n whole : ℕ) (start now : Tokens) (clients : List ServedClient)
+    → HasTaken run n start now clients → start.parts + n ≡ whole → start.grants ≡ 0 → start.rounds ≡ run.cfg.rounds
+    → HasTaken run n (record { parts = whole - n; grants = 0; rounds = run.cfg.rounds }) now clients
+taken_from run n whole start now clients taken parts_are no_grants all_rounds =
     record {
-      blocks_are = taken.blocks_are;
       clients_are = taken.clients_are;
-      answer = taken.answer;
       served = taken.served;
       parts = omega (arith, taken.parts, parts_are);
       grants = omega (arith, taken.grants, no_grants);

@@ -1,5 +1,5 @@
 pub mod Ending
 pub mod Removing
-pub mod Gathering
+pub mod Dealing
 pub mod Working
 pub mod Served

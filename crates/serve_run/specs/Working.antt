@@ -1,13 +1,15 @@
 -- What the workers of a run are given, what they end with, and what is taken in of their ends.
-use Rattle.std.specs.Prelude.{◌≡◌, ℕ, ◌+◌, ◌*◌, ◌<◌, ◌≤◌, List, get_or, length, Some, Result, IfOk}
-use Rattle.units.specs.declared.memory.NoMemory.{NoMemory}
+use Rattle.std.specs.Prelude.{◌≡◌, ℕ, ◌+◌, ◌*◌, ◌<◌, ◌≤◌, List, get_or, length, Some, Option, IfSome, IsSome}
 use Rattle.request_text.specs.declared.limits.TheConstants.{MOST_REQUESTS}
+use Rattle.reply_block.specs.Framed.{Placed}
 use Rattle.manager.specs.Tokens.{Tokens}
 use Rattle.manager.specs.Standing.{Held}
 use Rattle.serve_session.specs.declared.served.ServedClient.{ServedClient}
+use Rattle.serve_session.specs.Places.{numbers_of, AreEmpty, AreOfClient, AreAnswered}
 use Rattle.serve_session.specs.Running.{RunValue}
 use Rattle.serve_session.specs.Served.{IsServed, all_grants}
-use Rattle.serve_session.specs.Tiling.{asked_by, replies_to}
+use Rattle.serve_session.specs.Tiling.{HoldReplies}
+use Rattle.serve_run.specs.Dealing.{AreDealt, AllEmpty}
 
 -- one part of the shares, which counts so many grants and enforcements
 abbrev pub one_part : ℕ → ℕ → Tokens
@@ -17,27 +19,65 @@ one_part grants rounds = record { parts = 1; grants = grants; rounds = rounds }
 abbrev pub enforced : ℕ → Held
 enforced rounds = record { shares = Some (one_part 0 rounds); base = 0; grants = 0; returns = 0; greatest = 0 }
 
--- a job for each of n clients, by rising number from 1
-pub record AreJobs {A : Type 0} (client : A → ℕ) (n : ℕ) (jobs : List A) : Type 0 where
-  pub all : length jobs ≡ n
-  pub each : (i : ℕ) (d : A) → i < n → client (get_or jobs i d) ≡ i + 1
+-- a client's places are those of its requests, and nothing was written to them
+pub record IsReady (run : RunValue) (client : ℕ) (places : List Placed) : Type 0 where
+  pub of_client : AreOfClient run client (numbers_of places)
+  pub empty : AreEmpty places
 
--- a client was served: these are the replies to its requests, and this came of them
-pub record WasServed (run : RunValue) (client : ℕ) (replies : List ℕ) (served : ServedClient) : Type 0 where
-  pub replies_are : replies ≡ replies_to run.tiling (asked_by client run.requests)
-  pub served_is : IsServed run.cfg client run.requests served
+-- the worker at a desk can begin: its client's places are ready, and each holds a reply
+pub record CanWork (run : RunValue) (size at : ℕ) (places : List Placed) : Type 0 where
+  pub few : at ≤ run.cfg.clients
+  pub sized : HoldReplies run.tiling size
+  pub ready : IsReady run (at + 1) places
 
--- What the workers of the first n clients ended with, by rising number: each served its client, or was out of memory.
-pub record AreEnds {A : Type 0} (replies : A → List ℕ) (served : A → ServedClient) (run : RunValue) (n : ℕ) (ends : List (Result A NoMemory)) : Type 0 where
-  pub all : length ends ≡ n
-  pub each : (i : ℕ) (d : Result A NoMemory) → i < n → IfOk (get_or ends i d) (λ e. WasServed run (i + 1) (replies e) (served e))
+-- What a client's worker came to, unless it was out of memory: the client was served, and its places have the replies to its requests.
+abbrev pub HasEnded : {A : Type 0} → (A → ServedClient) → RunValue → ℕ → List Placed → Option A → Type 0
+HasEnded served run client places ended =
+    IfSome ended (λ e. IsServed run.cfg client run.requests (served e) × AreAnswered run.tiling run.requests places)
 
--- The ends of the first n clients were taken in: a block with the replies of each, what came of its requests, and its share, which was
--- put to those that were there.
-pub record HasTaken {B : Type 0} (bytes : B → List ℕ) (run : RunValue) (n : ℕ) (start now : Tokens) (blocks : List B) (clients : List ServedClient) : Type 0 where
-  pub blocks_are : length blocks ≡ n
+-- What the worker at a desk leaves there: the places are the same, and this is what it came to.
+pub record HasWorked {A : Type 0} (served : A → ServedClient) (run : RunValue) (at : ℕ) (before after : List Placed) (ended : Option A) (handle : Option Held) : Type 0 where
+  pub numbers_are : numbers_of after ≡ numbers_of before
+  pub ended_is : at < run.cfg.clients → HasEnded served run (at + 1) after ended
+  pub enforced_is : at ≡ run.cfg.clients → IfSome handle (λ h. h ≡ enforced run.cfg.rounds)
+
+-- each client's places are those of its requests, and nothing was written to them
+abbrev pub AllReady : {D : Type 0} → (D → List Placed) → RunValue → List D → Type 0
+AllReady {D} places run desks = (c : ℕ) (d : D) → c < length desks → IsReady run (c + 1) (places (get_or desks c d))
+
+-- The workers can begin: each client's places are dealt, nothing was written to them, and each holds a reply.
+pub record CanServe {D : Type 0} (places : D → List Placed) (run : RunValue) (size : ℕ) (desks : List D) : Type 0 where
+  pub all : length desks ≡ run.cfg.clients + 1
+  pub few : length run.requests ≤ MOST_REQUESTS
+  pub sized : HoldReplies run.tiling size
+  pub dealt : AreDealt places run.requests (length run.requests) desks
+  pub empty : AllEmpty places desks
+
+-- The workers have ended, and each client still has its places. Worker 0 made all enforcements, unless it was out of memory.
+pub record HaveEnded {D A : Type 0} (served : A → ServedClient) (places : D → List Placed) (ended : D → Option A) (handle : D → Option Held) (run : RunValue) (desks : List D) : Type 0 where
+  pub all : length desks ≡ run.cfg.clients + 1
+  pub dealt : AreDealt places run.requests (length run.requests) desks
+  pub ends : (c : ℕ) (d : D) → c < run.cfg.clients → HasEnded served run (c + 1) (places (get_or desks c d)) (ended (get_or desks c d))
+  pub enforced_is : (d : D) → IfSome (handle (get_or desks run.cfg.clients d)) (λ h. h ≡ enforced run.cfg.rounds)
+
+-- each client that was not out of memory was served
+abbrev pub AllServed : {D A : Type 0} → (A → ServedClient) → (D → Option A) → RunValue → List D → Type 0
+AllServed {D} served ended run desks = (c : ℕ) (d : D) → c < length desks
+    → IfSome (ended (get_or desks c d)) (λ e. IsServed run.cfg (c + 1) run.requests (served e))
+
+-- the workers of the first n desks ended, and none was out of memory
+abbrev pub AreComplete : {D A : Type 0} → (D → Option A) → ℕ → List D → Type 0
+AreComplete {D} ended n desks = (c : ℕ) (d : D) → c < n → IsSome (ended (get_or desks c d))
+
+-- Each client that was not out of memory was served, and worker 0 made all enforcements, unless it was out of memory.
+pub record HaveServed {D A : Type 0} (served : A → ServedClient) (ended : D → Option A) (handle : D → Option Held) (run : RunValue) (desks : List D) : Type 0 where
+  pub all : length desks ≡ run.cfg.clients + 1
+  pub served_is : (c : ℕ) (d : D) → c < run.cfg.clients → IfSome (ended (get_or desks c d)) (λ e. IsServed run.cfg (c + 1) run.requests (served e))
+  pub enforced_is : (d : D) → IfSome (handle (get_or desks run.cfg.clients d)) (λ h. h ≡ enforced run.cfg.rounds)
+
+-- What the ends of the first n clients came to, when they were taken in: each was served, and its share was put to those that were there.
+pub record HasTaken (run : RunValue) (n : ℕ) (start now : Tokens) (clients : List ServedClient) : Type 0 where
   pub clients_are : length clients ≡ n
-  pub answer : (i : ℕ) (d : B) → i < n → bytes (get_or blocks i d) ≡ replies_to run.tiling (asked_by (i + 1) run.requests)
   pub served : (i : ℕ) (d : ServedClient) → i < n → IsServed run.cfg (i + 1) run.requests (get_or clients i d)
   pub parts : now.parts ≡ start.parts + n
   pub grants : now.grants ≡ start.grants + all_grants clients

@@ -3,8 +3,8 @@
 //! one manager of soft memory. The replies are those to the requests in their order, whatever the
 //! workers met of each other, and the manager's book tells of each grant how it ended.
 
+mod dealing;
 mod ending;
-mod gathering;
 mod laws;
 mod served;
 mod serving;

@@ -1,17 +1,18 @@
-ghost use Rattle.std.specs.Prelude.{◌≡◌, [], true, IfOk};
+ghost use Rattle.std.specs.Prelude.{◌≡◌, [], length, true, IfOk};
 ghost use Rattle.request_text.specs.Requests.{AreRequests};
 ghost use Rattle.manager.specs.declared.shares.TheConstants.{PARTS};
 ghost use Rattle.serve_plain.specs.Config.{IsServeCfg};
+ghost use Rattle.serve_session.specs.Tiling.{HoldReplies};
 ghost use Rattle.serve_run.specs.Served.{Serves};
 
 use crate::ending::remove_all;
-use crate::gathering::gather;
 use crate::served::Served;
 use crate::taking::Taken;
 use crate::workers::serve_all;
 use discard_io::{Clock, Gate};
 use manager::{Fixed, Manager, PARTS};
 use manager_state::State;
+use reply_block::{Layout, Room};
 use request_text::Requests;
 use return_queue::{Returns, RuledReturns};
 use serve_plain::{Replies, ServeCfg};
@@ -44,20 +45,27 @@ pub fn serve<H: Threads + Wait + Sync, C: Clock + Sync, T: Gate + Sync>(
     ensures { IfOk result (λ served. Serves cfg.now image.now requests.now served) }
 {
     let run = Run::new(alloc, cfg, image, requests, clock, gate)?;
+    let room = Room::new(
+        alloc,
+        run.requests().as_slice().len(),
+        run.tiling().reply_len(),
+    )?;
     let state = State::new(alloc, cfg.limit, cfg.keep)?;
     let made = RuledReturns::new(alloc, RETURNS)?;
     let grants = Blank::new(u64::from(PARTS));
     let rounds = Blank::new(u64::from(PARTS));
     serve_as::<RuledReturns, Brand, Brand, Brand, H, C, T>(
-        rt, alloc, &run, state, made, grants, rounds,
+        rt, alloc, &run, room, state, made, grants, rounds,
     )
 }
 
-/// Serves a run with a manager of this state and this queue, at names that the caller picks.
+/// Serves a run with places for its replies in this room, and a manager of this state and this queue, at
+/// names that the caller picks.
 fn serve_as<R, F, G, E, H, C, T>(
     rt: &H,
     alloc: Global,
     run: &Run<'_, C, T>,
+    room: Room,
     state: State,
     made: (R, R::Pass, R::Taker),
     grants: Blank,
@@ -67,13 +75,18 @@ where
     R: Returns + Sync + Send + Drop,
     R::Pass: Send,
     R::Taker: Send,
-    F: Fixed + Send + Sync,
+    F: Fixed + Layout + Send + Sync,
     G: Ledger + Send + Sync,
     E: Ledger + Send + Sync,
     H: Threads + Wait + Sync,
     C: Clock + Sync,
     T: Gate + Sync,
     requires lawful { IsServeCfg run.now.cfg }
+    requires requests { AreRequests run.now.cfg.clients run.now.requests }
+    requires side { run.now.tiling.side ≡ run.now.cfg.side }
+    requires room { room ≡ record { base = F.base; size = F.size; count = F.count } }
+    requires sized { HoldReplies run.now.tiling F.size }
+    requires places { F.count ≡ length run.now.requests }
     requires limit { (state.limit ≡ F.limit) × (F.limit ≡ run.now.cfg.limit) }
     requires entries { (state.entries ≡ F.handed) × (F.handed ≡ []) }
     requires queue { F.queue ≡ R.name made.0 }
@@ -90,18 +103,12 @@ where
     let (manager, whole) = Manager::<R, F, G, E>::with_returns(
         state, returns, taker, grants, rounds,
     );
-    let taken = serve_all(rt, alloc, run, &manager, pass, whole)?;
-    let Taken {
-        blocks,
-        clients,
-        shares,
-    } = taken;
+    let (replies, taken) = serve_all(rt, alloc, run, &manager, pass, whole, room)?;
+    let Taken { clients, shares } = taken;
     let mut state = manager.finish_with(shares);
     remove_all(&mut state);
-    let requests = run.requests().as_slice();
-    let replies = gather(alloc, run.tiling(), requests, &blocks)?;
     Ok(Served {
-        replies: Replies::from_vec(replies),
+        replies: Replies::from_joined(replies),
         clients: ServedClients::from_vec(clients),
         state,
     })

@@ -2,11 +2,19 @@ ghost use Rattle.std.specs.Prelude.{◌≡◌};
 ghost use Rattle.serve_plain.specs.Config.{IsServeCfg};
 
 use crate::{report_text, serve};
-use discard_io::{CountClock, OpenGate};
+use discard_io::{Clock, CountClock, Gate, OpenGate};
 use request_text::read_requests;
-use serve_plain::ServeCfg;
+use serve_plain::{ServeCfg, Tally};
+use std::alloc::Global;
+use std::sync::Wait;
+use std::sync::atomic::{AtomicU64, Ordering};
 use std::test::Fail;
+use std::thread::Threads;
 use tile_source::read_pgm;
+use units::NoMemory;
+
+/// An image of two samples.
+const IMAGE: &[u8] = b"P5\n2 1\n255\n\x07\x09";
 
 /// One client, tiles of 64 by 64, segments of one page, and a limit of one page.
 fn settings() -> ServeCfg
@@ -46,7 +54,7 @@ granted 0
 #[test]
 fn a_purged_tile_is_made_again(rt: HostRuntime) -> Result<(), Fail> {
     let alloc = rt.alloc();
-    let image = read_pgm(alloc, b"P5\n2 1\n255\n\x07\x09")?;
+    let image = read_pgm(alloc, IMAGE)?;
     let requests = read_requests(alloc, 1, REQUESTS)?;
     let cfg = settings();
     let clock = CountClock::new(1);
@@ -58,5 +66,128 @@ fn a_purged_tile_is_made_again(rt: HostRuntime) -> Result<(), Fail> {
     // A head of 13 bytes, and then 64 by 64 samples.
     assert!(rt; replies.len() == 3 * 4109);
     assert!(rt; replies.starts_with(b"P5\n64 64\n255\n\x07\x09\x00"));
+    Ok(())
+}
+
+/// A gate that notes where client 1 passes, as the digits of a number, and the sum of the places of
+/// worker 0.
+#[derive(Drop)]
+struct Trace {
+    places: AtomicU64,
+    rounds: AtomicU64,
+}
+
+impl Trace {
+    fn new() -> Trace {
+        Trace {
+            places: AtomicU64::new(9),
+            rounds: AtomicU64::new(0),
+        }
+    }
+
+    /// Whether client 1 passed each place of four requests in turn, and worker 0 its places 0 to 2.
+    fn is_whole(&self) -> bool {
+        self.places.load(Ordering::SeqCst) == 901_234_567 && self.rounds.load(Ordering::SeqCst) == 3
+    }
+}
+
+impl Gate for Trace {
+    fn pass<H: Threads + Wait + Sync>(&self, _rt: &H, who: u32, place: u64) {
+        match who {
+            0 => {
+                self.rounds.fetch_add(place, Ordering::SeqCst);
+            }
+            1 => {
+                let before = self.places.load(Ordering::SeqCst);
+                let after = before.wrapping_mul(10).wrapping_add(place);
+                self.places.store(after, Ordering::SeqCst);
+            }
+            _ => {}
+        }
+    }
+}
+
+/// Two clients, three enforcements, and a limit that fits all tiles.
+fn settings_of_two() -> ServeCfg
+    ensures lawful { IsServeCfg result }
+    ensures clients { result.clients ≡ 2 }
+{
+    ServeCfg {
+        clients: 2,
+        limit: 64,
+        side: 64,
+        entries: 4,
+        rounds: 3,
+        standard: 1,
+        keep: 0,
+    }
+}
+
+/// Four requests of client 1, and one of client 2.
+const REQUESTS_OF_TWO: &[u8] = b"1 0 0 0
+1 0 1 0
+2 0 0 0
+1 0 1 0
+1 0 0 0
+";
+
+/// What client 1 asked, and what came of it.
+fn first_client() -> Tally {
+    Tally {
+        client: 1,
+        requests: 4,
+        first: 2,
+        kept: 2,
+        rebuilt: 0,
+        again: 0,
+        grants: 2,
+    }
+}
+
+/// Appends a tile of two samples, with its head; what lies outside of the image is 0.
+fn add_reply(replies: &mut Vec<u8>, outside: &[u8], one: u8, other: u8) -> Result<(), NoMemory> {
+    replies.extend_from_slice(b"P5\n64 64\n255\n")?;
+    replies.push(one)?;
+    replies.push(other)?;
+    replies.extend_from_slice(outside)?;
+    Ok(())
+}
+
+/// The replies to all requests of the two.
+fn wanted(alloc: Global) -> Result<Vec<u8>, NoMemory> {
+    let outside = zeros(alloc, 64 * 64 - 2)?;
+    let mut replies = Vec::new(alloc);
+    add_reply(&mut replies, &outside, 7, 9)?;
+    add_reply(&mut replies, &outside, 0, 0)?;
+    add_reply(&mut replies, &outside, 7, 9)?;
+    add_reply(&mut replies, &outside, 0, 0)?;
+    add_reply(&mut replies, &outside, 7, 9)?;
+    Ok(replies)
+}
+
+fn zeros(alloc: Global, count: usize) -> Result<Vec<u8>, NoMemory> {
+    Ok(Vec::from_elem(alloc, 0, count)?)
+}
+
+#[test]
+fn each_client_is_served_at_its_places_of_the_gate(rt: HostRuntime) -> Result<(), Fail> {
+    let alloc = rt.alloc();
+    let image = read_pgm(alloc, IMAGE)?;
+    let requests = read_requests(alloc, 2, REQUESTS_OF_TWO)?;
+    let cfg = settings_of_two();
+    let clock = CountClock::new(1);
+    let gate = Trace::new();
+    let served = serve(&rt, alloc, &cfg, &image, &requests, &clock, &gate)?;
+    assert!(rt; served.replies.as_slice() == wanted(alloc)?.as_slice());
+    assert!(rt;
+        served
+            .clients
+            .as_slice()
+            .first()
+            .is_some_and(|first| first.tally == first_client())
+    );
+    assert!(rt; gate.is_whole());
+    // The clock was read once for each enforcement, and twice for each request.
+    assert!(rt; clock.now() == 14);
     Ok(())
 }

@@ -1,13 +1,19 @@
 //! All workers of a run at once.
-ghost use Rattle.std.specs.Prelude.{◌≡◌, ◌+◌, ◌-◌, ◌<◌, true, IfOk, OnOk};
+ghost use Rattle.std.specs.Prelude.{◌≡◌, ◌+◌, ◌-◌, ◌<◌, All, [], length, vec_capacity, true, IsTrue, IsSome, IfOk, OnOk};
+ghost use Rattle.request_text.specs.Requests.{AreRequests};
 ghost use Rattle.manager.specs.declared.shares.TheConstants.{PARTS};
 ghost use Rattle.serve_plain.specs.Config.{IsServeCfg};
-ghost use Rattle.serve_run.specs.Working.{enforced, one_part, AreJobs, WasServed, AreEnds, HasTaken};
+ghost use Rattle.serve_plain.specs.Reply.{tiles_of};
+ghost use Rattle.serve_session.specs.Tiling.{HoldReplies, replies_to};
+ghost use Rattle.serve_run.specs.Dealing.{AreDealt, HaveRoom};
+ghost use Rattle.serve_run.specs.Working.{enforced, AllServed, AreComplete, CanServe, CanWork, HasWorked, HaveEnded, HaveServed, HasTaken};
 
+use crate::dealing::{count_of, deal, gather};
 use crate::taking::{Taken, take_all};
-use crate::worker::{Ended, Job, enforce_all, work};
+use crate::worker::{Desk, work};
 use discard_io::{Clock, Gate};
 use manager::{Fixed, Handle, Manager, Shares};
+use reply_block::{Frame, Joined, Layout, Room};
 use return_queue::Returns;
 use serve_session::Run;
 use std::alloc::Global;
@@ -18,8 +24,11 @@ use std::thread::Threads;
 use units::NoMemory;
 
 /// Serves all clients at once, each in a worker of its own, beside worker 0, which enforces the limit.
-/// When all have ended, the pass of each is drained, and last the first pass, and all shares are
-/// merged.
+/// Each reply is written once, to its place in the room. When all have ended, the pass of each is
+/// drained, and last the first pass, and all shares are merged.
+///
+/// Nothing may fail while places are out: a worker that is out of memory leaves its desk without an
+/// end, which is looked at when all places are joined again.
 pub(crate) fn serve_all<R, F, G, E, H, C, T>(
     rt: &H,
     alloc: Global,
@@ -27,117 +36,223 @@ pub(crate) fn serve_all<R, F, G, E, H, C, T>(
     manager: &Manager<R, F, G, E>,
     mut first: R::Pass,
     mut whole: Shares<G, E>,
-) -> Result<Taken<G, E>, NoMemory>
+    room: Room,
+) -> Result<(Joined, Taken<G, E>), NoMemory>
 where
     R: Returns + Sync + Send + Drop,
     R::Pass: Send,
     R::Taker: Send,
-    F: Fixed + Send + Sync,
+    F: Fixed + Layout + Send + Sync,
     G: Ledger + Send + Sync,
     E: Ledger + Send + Sync,
     H: Threads + Wait + Sync,
     C: Clock + Sync,
     T: Gate + Sync,
     requires lawful { IsServeCfg run.now.cfg }
+    requires requests { AreRequests run.now.cfg.clients run.now.requests }
     requires counts { F.counts ≡ true }
     requires pass { R.is_pass F.queue first }
     requires whole { whole ≡ record { parts = PARTS; grants = 0; rounds = 0 } }
-    ensures { IfOk result (λ taken. HasTaken (λ b. b.items) run.now run.now.cfg.clients
+    requires room { room ≡ record { base = F.base; size = F.size; count = F.count } }
+    requires sized { HoldReplies run.now.tiling F.size }
+    requires places { F.count ≡ length run.now.requests }
+    ensures replies { IfOk result (λ r. r.0 ≡ replies_to run.now.tiling (tiles_of run.now.requests)) }
+    ensures taken { IfOk result (λ r. HasTaken run.now run.now.cfg.clients
         (record { parts = PARTS - run.now.cfg.clients; grants = 0; rounds = run.now.cfg.rounds })
-        taken.shares taken.blocks.items taken.clients.items) }
+        r.1.shares r.1.clients.items) }
 {
-    let own = handle_for(manager, &mut first, &mut whole);
-    let jobs = jobs_of(alloc, run, manager, &mut first, &mut whole)?;
-    let (own, ends) = thread::join(
-        rt,
-        move || -> Result<(R::Pass, Shares<G, E>), NoMemory>
-            requires counts { F.counts ≡ true }
-            requires fresh { own ≡ enforced 0 }
-            ensures pass { IfOk result (λ parts. R.is_pass F.queue parts.0) }
-            ensures share { IfOk result (λ parts.
-                parts.1 ≡ one_part 0 run.entry.now.cfg.rounds) }
-        { enforce_all(rt, alloc, run, own) },
-        move || -> Result<Vec<Result<Ended<'_, R, F, G, E>, NoMemory>>, NoMemory>
-            requires { AreJobs (λ job. job.client) run.now.cfg.clients jobs.items }
-            ensures { IfOk result (λ ends. AreEnds (λ end. end.replies.items) (λ end. end.served)
-                run.entry.now run.entry.now.cfg.clients ends.items) }
-        { serve_clients(rt, alloc, run, jobs) },
-    );
-    let (pass, share) = own?;
+    let desks = desks_of(alloc, run, manager, &mut first, &mut whole)?;
+    let (frame, desks) = dealt(run, room, desks);
+    let mut desks = serve_clients(rt, alloc, run, desks);
+    let replies = joined(run, frame, &mut desks);
+    let (desks, own) = taken_apart(run, desks)?;
+    let (pass, share) = own.into_parts();
     manager.drain(rt, pass);
     whole.merge(share);
-    let ends = ends?;
-    let taken = take_all(rt, alloc, run, manager, ends, whole)?;
+    let taken = take_all(rt, alloc, run, manager, desks, whole)?;
     manager.drain(rt, first);
-    Ok(taken)
+    Ok((replies, taken))
 }
 
-/// Serves all clients at once.
+/// Cuts the room into a place for each request, and deals them to the desks, which have none.
+fn dealt<'m, R, F, G, E, C, T>(
+    run: &Run<'_, C, T>,
+    room: Room,
+    mut desks: Vec<Desk<'m, R, F, G, E>>,
+) -> (Frame<F>, Vec<Desk<'m, R, F, G, E>>)
+where
+    R: Returns + Drop,
+    F: Fixed + Layout,
+    G: Ledger,
+    E: Ledger,
+    C: Clock,
+    T: Gate,
+    requires room { room ≡ record { base = F.base; size = F.size; count = F.count } }
+    requires sized { HoldReplies run.now.tiling F.size }
+    requires places { F.count ≡ length run.now.requests }
+    requires all { length desks.items ≡ run.now.cfg.clients + 1 }
+    requires none { AreDealt (λ desk. desk.places.items) run.now.requests 0 desks.items }
+    requires fits { HaveRoom (λ desk. vec_capacity desk.places) run.now.requests desks.items }
+    ensures frame { (result.0.from ≡ F.count) × (result.0.bytes ≡ []) }
+    ensures desks { CanServe (λ desk. desk.places.items) run.now F.size result.1.items }
+{
+    let mut frame = Frame::<F>::new(room);
+    let requests = run.requests().as_slice();
+    deal(requests, &mut frame, desks.as_mut_slice());
+    (frame, desks)
+}
+
+/// Takes all places from the desks and joins them. What they hold are the replies, where the worker of
+/// each client has ended.
+fn joined<R, F, G, E, C, T>(
+    run: &Run<'_, C, T>,
+    frame: Frame<F>,
+    desks: &mut Vec<Desk<'_, R, F, G, E>>,
+) -> Joined
+where
+    R: Returns + Drop,
+    F: Fixed + Layout,
+    G: Ledger,
+    E: Ledger,
+    C: Clock,
+    T: Gate,
+    requires sized { HoldReplies run.now.tiling F.size }
+    requires places { F.count ≡ length run.now.requests }
+    requires frame { (frame.from ≡ F.count) × (frame.bytes ≡ []) }
+    requires ended { HaveEnded (λ e. e.served) (λ desk. desk.places.items) (λ desk. desk.ended)
+        (λ desk. desk.settled) run.now desks.old.items }
+    ensures served { HaveServed (λ e. e.served) (λ desk. desk.ended) (λ desk. desk.settled)
+        run.now desks.new.items }
+    ensures replies { AreComplete (λ desk. desk.ended) run.now.cfg.clients desks.new.items
+        → result ≡ replies_to run.now.tiling (tiles_of run.now.requests) }
+{
+    let requests = run.requests().as_slice();
+    gather(requests, frame, desks.as_mut_slice())
+}
+
+/// The desks of all clients, and the handle of worker 0. Out of memory where a worker was.
+fn taken_apart<'m, R, F, G, E, C, T>(
+    run: &Run<'_, C, T>,
+    mut desks: Vec<Desk<'m, R, F, G, E>>,
+) -> Result<(Vec<Desk<'m, R, F, G, E>>, Handle<'m, R, F, G, E>), NoMemory>
+where
+    R: Returns + Drop,
+    F: Fixed + Layout,
+    G: Ledger,
+    E: Ledger,
+    C: Clock,
+    T: Gate,
+    requires { HaveServed (λ e. e.served) (λ desk. desk.ended) (λ desk. desk.settled)
+        run.now desks.items }
+    ensures all { IfOk result (λ r. length r.0.items ≡ run.now.cfg.clients) }
+    ensures served { IfOk result (λ r.
+        AllServed (λ e. e.served) (λ desk. desk.ended) run.now r.0.items) }
+    ensures complete { IfOk result (λ _.
+        AreComplete (λ desk. desk.ended) run.now.cfg.clients desks.entry.items) }
+    ensures handle { IfOk result (λ r. r.1 ≡ enforced run.now.cfg.rounds) }
+{
+    let Some(last) = desks.pop() else {
+        return Err(NoMemory);
+    };
+    let Desk { settled, .. } = last;
+    let Some(handle) = settled else {
+        return Err(NoMemory);
+    };
+    if !are_complete(&desks) {
+        return Err(NoMemory);
+    }
+    Ok((desks, handle))
+}
+
+/// Serves all clients at once, and enforces the limit beside them, each at its desk.
 fn serve_clients<'m, R, F, G, E, H, C, T>(
     rt: &H,
     alloc: Global,
     run: &Run<'_, C, T>,
-    jobs: Vec<Job<'m, R, F, G, E>>,
-) -> Result<Vec<Result<Ended<'m, R, F, G, E>, NoMemory>>, NoMemory>
+    mut desks: Vec<Desk<'m, R, F, G, E>>,
+) -> Vec<Desk<'m, R, F, G, E>>
 where
     R: Returns + Sync + Send + Drop,
     R::Pass: Send,
     R::Taker: Send,
-    F: Fixed + Send + Sync,
+    F: Fixed + Layout + Send + Sync,
     G: Ledger + Send + Sync,
     E: Ledger + Send + Sync,
     H: Threads + Wait + Sync,
     C: Clock + Sync,
     T: Gate + Sync,
-    requires { AreJobs (λ job. job.client) run.now.cfg.clients jobs.items }
-    ensures { IfOk result (λ ends. AreEnds (λ end. end.replies.items) (λ end. end.served)
-        run.now run.now.cfg.clients ends.items) }
+    requires { CanServe (λ desk. desk.places.items) run.now F.size desks.items }
+    ensures { HaveEnded (λ e. e.served) (λ desk. desk.places.items) (λ desk. desk.ended)
+        (λ desk. desk.settled) run.now result.items }
 {
-    let ends = thread::map_vec(
+    let threads = run.clients() as usize + 1;
+    thread::for_each_mut(
         rt,
-        jobs,
-        &|job: Job<'_, R, F, G, E>| -> Result<Ended<'_, R, F, G, E>, NoMemory>
-            ensures { IfOk result (λ end.
-                WasServed run.entry.now job.entry.client end.replies.items end.served) }
-        { work(rt, alloc, run, job) },
-    )?;
-    Ok(ends)
+        desks.as_mut_slice(),
+        threads,
+        &|at: usize, desk: &mut Desk<'_, R, F, G, E>|
+            requires { CanWork run.now F.size at desk.now.places.items }
+            ensures { HasWorked (λ e. e.served) run.entry.now at desk.entry.now.places.items
+                desk.exit.now.places.items desk.exit.now.ended desk.exit.now.settled }
+        { work(rt, alloc, run, at, desk) },
+    );
+    desks
 }
 
-/// A job for each client, with a handle of its own.
-fn jobs_of<'m, R, F, G, E, C, T>(
+/// Whether the worker of each desk has ended, and none was out of memory.
+fn are_complete<R, F, G, E>(desks: &[Desk<'_, R, F, G, E>]) -> bool
+where
+    R: Returns,
+    F: Fixed + Layout,
+    G: Ledger,
+    E: Ledger,
+    ensures { IsTrue result → All (λ desk. IsSome desk.ended) desks.now }
+{
+    desks.iter().all(|desk| desk.ended.is_some())
+}
+
+/// A desk for each client, with a handle of its own and room for the places of its requests, and one for
+/// worker 0.
+fn desks_of<'m, R, F, G, E, C, T>(
     alloc: Global,
     run: &Run<'_, C, T>,
     manager: &'m Manager<R, F, G, E>,
     first: &mut R::Pass,
     whole: &mut Shares<G, E>,
-) -> Result<Vec<Job<'m, R, F, G, E>>, NoMemory>
+) -> Result<Vec<Desk<'m, R, F, G, E>>, NoMemory>
 where
     R: Returns + Drop,
-    F: Fixed,
+    F: Fixed + Layout,
     G: Ledger,
     E: Ledger,
     C: Clock,
     T: Gate,
     requires counts { F.counts ≡ true }
     requires pass { R.is_pass F.queue first.old }
-    requires parts { run.now.cfg.clients < whole.old.parts }
-    ensures jobs { IfOk result (λ jobs.
-        AreJobs (λ job. job.client) run.now.cfg.clients jobs.items) }
+    requires parts { run.now.cfg.clients + 1 < whole.old.parts }
+    ensures all { IfOk result (λ desks. length desks.items ≡ run.now.cfg.clients + 1) }
+    ensures none { IfOk result (λ desks.
+        AreDealt (λ desk. desk.places.items) run.now.requests 0 desks.items) }
+    ensures room { IfOk result (λ desks.
+        HaveRoom (λ desk. vec_capacity desk.places) run.now.requests desks.items) }
     ensures pass { R.is_pass F.queue first.new }
-    ensures parts { OnOk result (whole.new.parts + run.now.cfg.clients ≡ whole.old.parts) }
+    ensures parts { OnOk result (whole.new.parts + (run.now.cfg.clients + 1) ≡ whole.old.parts) }
     ensures grants { OnOk result (whole.new.grants ≡ whole.old.grants) }
     ensures rounds { OnOk result (whole.new.rounds ≡ whole.old.rounds) }
 {
-    let mut jobs = Vec::new(alloc);
-    for before in 0..run.clients() {
+    let requests = run.requests().as_slice();
+    let mut desks = Vec::new(alloc);
+    for before in 0..run.clients() + 1 {
+        let places = Vec::with_capacity(alloc, count_of(requests, before + 1))?;
         let handle = handle_for(manager, first, whole);
-        jobs.push(Job {
-            client: before + 1,
-            handle,
+        desks.push(Desk {
+            handle: Some(handle),
+            places,
+            ended: None,
+            settled: None,
         })?;
     }
-    Ok(jobs)
+    Ok(desks)
 }
 
 /// A handle that gives through a pass of its own and counts in one part of the shares.

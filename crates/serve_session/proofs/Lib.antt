@@ -1,3 +1,3 @@
 pub mod Replies
 pub mod Session
-pub mod Asked
+pub mod PlacesAreServed

@@ -1,13 +1,12 @@
 -- How long replies are, and what one more request adds.
-use Rattle.std.proofs.Common.{◌≡◌, ℕ, ◌+◌, ◌*◌, ◌<◌, ◌≤◌, List, [], ◌∷◌, ◌++◌, length, inl, inr, ap, ◌∙◌, arith, append_assoc, length-append}
+use Rattle.std.proofs.Common.{◌≡◌, ℕ, ◌+◌, ◌*◌, ◌<◌, ◌≤◌, List, [], ◌++◌, length, inl, inr, sym, ◌∙◌, arith, length-append}
 use Rattle.std.specs.Prelude.{decimal}
-use Rattle.std.proofs.lemmas.List.{flat_map_more}
 use Rattle.std.proofs.lemmas.Fmt.{length-decimal-le}
 use Rattle.tile_source.specs.declared.tile.Tile.{Tile}
 use Rattle.tile_source.specs.Length.{length-tile}
 use Rattle.tile_source.specs.Pgm.{head}
 use Rattle.serve_plain.specs.Config.{IsSide}
-use Rattle.serve_session.specs.Tiling.{TilingValue, bytes_of, reply_of, replies_to, size_of}
+use Rattle.serve_session.specs.Tiling.{TilingValue, HoldReplies, bytes_of, reply_of, size_of}
 
 -- a reply is a head and the bytes of a tile
 pub length_reply : (t : TilingValue) (asked : Tile) → length (reply_of t asked) ≡ length (head t.side t.side t.image.maxval) + size_of t
@@ -25,6 +24,12 @@ square_low side (inl h) = rw h (omega arith)
 square_low side (inr (inl h)) = rw h (omega arith)
 square_low side (inr (inr h)) = rw h (omega arith)
 
+-- and at least one
+pub square_some : (side : ℕ) → IsSide side → 1 ≤ side * side
+square_some side (inl h) = rw h (omega arith)
+square_some side (inr (inl h)) = rw h (omega arith)
+square_some side (inr (inr h)) = rw h (omega arith)
+
 three_digits : (n : ℕ) → n < 1000 → length (decimal n) ≤ 3
 three_digits n low = length-decimal-le 3 n (omega arith) low (omega arith)
 
@@ -33,11 +38,11 @@ pub head_short : (side maxval : ℕ) → side < 1000 → maxval < 1000 → lengt
 head_short side maxval wide deep =
     simp length-append (omega (arith, three_digits side wide, three_digits maxval deep))
 
--- the reply to one more request stands behind those before
-pub one_more_reply : (t : TilingValue) (asked : List Tile) (tile : Tile) (replies : List ℕ)
-    → replies ≡ replies_to t asked
-    → (replies ++ head t.side t.side t.image.maxval) ++ bytes_of t tile ≡ replies_to t (asked ++ tile ∷ [])
-one_more_reply t asked tile replies h =
-    append_assoc replies (head t.side t.side t.image.maxval) (bytes_of t tile)
-    ∙ ap (λ (r : List ℕ). r ++ reply_of t tile) h
-    ∙ flat_map_more (reply_of t) [] asked tile
+-- where a reply has room, its head has, and then its tile
+pub reply_fits : (t : TilingValue) (asked : Tile) (size : ℕ) → HoldReplies t size → length (head t.side t.side t.image.maxval) + length (bytes_of t asked) ≡ size
+reply_fits t asked size hold = sym (length-append (head t.side t.side t.image.maxval) (bytes_of t asked)) ∙ hold asked
+
+-- a head that was written where nothing was, and a tile behind it
+pub reply_written : (t : TilingValue) (asked : Tile) (old between new front back : List ℕ) → old ≡ [] → between ≡ old ++ front → new ≡ between ++ back
+    → front ≡ head t.side t.side t.image.maxval → back ≡ bytes_of t asked → new ≡ reply_of t asked
+reply_written t asked old between new front back none first second head_is tile_is = cc

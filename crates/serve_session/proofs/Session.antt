@@ -4,7 +4,6 @@ use Rattle.request_text.specs.declared.limits.TheConstants.{MOST_REQUESTS}
 use Rattle.tile_source.specs.declared.tile.Tile.{Tile}
 use Rattle.tile_source.specs.Image.{tile}
 use Rattle.tile_source.specs.Maker.{MakerValue}
-use Rattle.tile_source.specs.Pgm.{head}
 use Rattle.client.specs.Sizes.{pages_for}
 use Rattle.client.specs.Granting.{LAST_COUNT, RoseBy, Session}
 use Rattle.tile_cache.specs.declared.counts.Counts.{Counts}
@@ -18,11 +17,10 @@ use Rattle.tile_cache.specs.Bound.{IsFresh, IsBounded, EndsBounded}
 use Rattle.tile_cache.specs.Getting.{Gets, Rests, pages_of}
 use Rattle.tile_cache.specs.Ended.{Ended, Closes}
 use Rattle.serve_plain.specs.Config.{IsServeCfg, IsSide}
-use Rattle.serve_session.specs.Tiling.{TilingValue, Makes, bytes_of, size_of, asked_by}
+use Rattle.serve_session.specs.Tiling.{TilingValue, Makes, size_of, asked_by}
 use Rattle.serve_session.specs.Running.{RunValue, IsUsed, HasServed, all_counts}
 use Rattle.serve_session.specs.Served.{IsServed, IsBoundedBySegments, counts_of, tile_pages}
 use Rattle.serve_session.specs.declared.served.ServedClient.{ServedClient}
-use Rattle.serve_session.proofs.Replies.{one_more_reply}
 
 -- one more answer is one more count
 one_more_count : (told : Shown) (counts : Counts) → all_counts counts < LAST_COUNT → all_counts (counted told counts) ≡ all_counts counts + 1
@@ -48,11 +46,6 @@ pub record TalliesEnd (number : ℕ) (asked : List Tile) (served : ServedClient)
   pub counts : counts_of served.tally ≡ served.end.counts
   pub grants : served.tally.grants ≡ served.end.client.grants
 
--- what was appended in two parts
-pub in_two_parts : (old between new front back front_is back_is : List ℕ) → between ≡ old ++ front → new ≡ between ++ back → front ≡ front_is → back ≡ back_is
-    → new ≡ (old ++ front_is) ++ back_is
-in_two_parts old between new front back front_is back_is first second head tile = cc
-
 module _ {G : Type 0} where
   -- a cache that was used with a maker of the tiling's tiles was used for these tiles
   pub used_with_maker : (tiling : TilingValue) (maker : MakerValue) (cache : Cached G) → Makes tiling maker
@@ -62,12 +55,12 @@ module _ {G : Type 0} where
       (subst (λ (n : ℕ). IsUsedWith (λ (t : Tile). tile maker.image t.z t.x t.y maker.side) n cache) makes.size used)
 
   -- a request was served: its tile was shown and copied behind its head, and the cache rested
-  pub served_more : {moment : ℕ} (run : RunValue) (asked : List Tile) (granter : G) (tile : Tile) (told : Shown) (old shown new : Cached G) (replies : List ℕ)
+  pub served_more : {moment : ℕ} (run : RunValue) (asked : List Tile) (granter : G) (tile : Tile) (told : Shown) (old shown new : Cached G)
       → IsServeCfg run.cfg → length asked < MOST_REQUESTS
-      → HasServed run asked granter old replies
+      → HasServed run asked granter old
       → Gets tile told old shown → IsUsed run.tiling shown → Rests moment shown new
-      → HasServed run (asked ++ tile ∷ []) granter new ((replies ++ head run.tiling.side run.tiling.side run.tiling.image.maxval) ++ bytes_of run.tiling tile)
-  served_more run asked granter tile told old shown new replies lawful few has gets used rests =
+      → HasServed run (asked ++ tile ∷ []) granter new
+  served_more run asked granter tile told old shown new lawful few has gets used rests =
       let counts : new.counts ≡ counted told old.counts = ap (λ (c : Cached G). c.counts) rests.same ∙ gets.counts in
       let before : all_counts old.counts ≡ length asked = has.count in
       let rises : all_counts (counted told old.counts) ≡ all_counts old.counts + 1 = one_more_count told old.counts (omega arith) in
@@ -77,7 +70,6 @@ module _ {G : Type 0} where
       let same : pages_of new.session.client ≡ pages_of shown.session.client = ap (λ h. pages_of (record shown.session.client { heap = h })) rests.heap in
       record {
         side = has.side;
-        answered = one_more_reply run.tiling asked tile replies has.answered;
         stands = rests.asked _ (gets.asked asked has.stands).1;
         used = rests.used _ _ used;
         count = ap all_counts counts ∙ (rises ∙ omega arith);
@@ -92,26 +84,26 @@ module _ {G : Type 0} where
       }
 
   -- a cache's end is bounded by its client's segments
-  end_bounded : (run : RunValue) (asked : List Tile) (granter : G) (cache : Cached G) (replies : List ℕ) (end : Ended)
-      → HasServed run asked granter cache replies → EndsBounded cache end
+  end_bounded : (run : RunValue) (asked : List Tile) (granter : G) (cache : Cached G) (end : Ended)
+      → HasServed run asked granter cache → EndsBounded cache end
       → IsBounded (tile_pages run.cfg.side) run.cfg.standard end
-  end_bounded run asked granter cache replies end has ends =
+  end_bounded run asked granter cache end has ends =
       subst (λ (n : ℕ). IsBounded (tile_pages run.cfg.side) n end) has.first_standard
       (subst (λ (n : ℕ). IsBounded (tile_pages n) cache.start.client.standard end) has.side (ends has.fresh has.failed (size_of run.tiling) has.used.sized))
 
   -- a client whose requests were all served, at the closing of its cache
-  pub served_closed : (run : RunValue) (number : ℕ) (granter : G) (cache : Cached G) (replies : List ℕ) (served : ServedClient)
+  pub served_closed : (run : RunValue) (number : ℕ) (granter : G) (cache : Cached G) (served : ServedClient)
       → length (asked_by number run.requests) ≤ MOST_REQUESTS
-      → HasServed run (asked_by number run.requests) granter cache replies
+      → HasServed run (asked_by number run.requests) granter cache
       → Closes cache served.end → EndsBounded cache served.end
       → TalliesEnd number (asked_by number run.requests) served
       → IsServed run.cfg number run.requests served
-  served_closed run number granter cache replies served few has closes ends tallies =
+  served_closed run number granter cache served few has closes ends tallies =
       let asked = asked_by number run.requests in
       let told : counts_of served.tally ≡ cache.counts = tallies.counts ∙ closes.counts in
       let count : Count run.cfg.entries asked cache.counts = subst (λ (n : ℕ). Count n asked cache.counts) has.most (has.stands.counts (omega arith)) in
       let tiles : served.end.tiles ≡ recent asked run.cfg.entries = closes.tiles ∙ (has.stands.entries ∙ ap (recent asked) has.most) in
-      let bounded = end_bounded run asked granter cache replies served.end has ends in
+      let bounded = end_bounded run asked granter cache served.end has ends in
       let rebuilt : served.tally.rebuilt ≡ served.end.counts.rebuilt = ap (λ (c : Counts). c.rebuilt) tallies.counts in
       let first : served.tally.first ≡ served.end.counts.first = ap (λ (c : Counts). c.first) tallies.counts in
       let again : served.tally.again ≡ served.end.counts.again = ap (λ (c : Counts). c.again) tallies.counts in
@@ -136,11 +128,11 @@ module _ {G : Type 0} where
       }
 
   -- so it was granted few segments
-  pub few_granted : (run : RunValue) (asked : List Tile) (granter : G) (cache : Cached G) (replies : List ℕ) (served : ServedClient)
-      → length asked ≤ MOST_REQUESTS → HasServed run asked granter cache replies → Closes cache served.end
+  pub few_granted : (run : RunValue) (asked : List Tile) (granter : G) (cache : Cached G) (served : ServedClient)
+      → length asked ≤ MOST_REQUESTS → HasServed run asked granter cache → Closes cache served.end
       → counts_of served.tally ≡ served.end.counts → IsBoundedBySegments run.cfg asked served
       → served.tally.grants ≤ MOST_REQUESTS
-  few_granted run asked granter cache replies served few has closes counts bounded =
+  few_granted run asked granter cache served few has closes counts bounded =
       let told : counts_of served.tally ≡ cache.counts = counts ∙ closes.counts in
       let all : served.tally.first + (served.tally.kept + (served.tally.rebuilt + served.tally.again)) ≡ length asked = ap all_counts told ∙ has.count in
       omega (arith, all, few, bounded.granted)

@@ -1,3 +1,4 @@
 pub mod Tiling
 pub mod Served
 pub mod Running
+pub mod Places

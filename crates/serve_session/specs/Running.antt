@@ -1,5 +1,5 @@
 -- What is seen of a run, and what a client's session has done.
-use Rattle.std.specs.Prelude.{◌≡◌, ℕ, ◌+◌, ◌*◌, ◌≤◌, false, List, length}
+use Rattle.std.specs.Prelude.{◌≡◌, ℕ, ◌+◌, ◌*◌, ◌≤◌, ◌<◌, false, List, [], ◌∷◌, ◌++◌, length}
 use Rattle.request_text.specs.declared.request.Request.{Request}
 use Rattle.tile_source.specs.declared.tile.Tile.{Tile}
 use Rattle.tile_cache.specs.declared.counts.Counts.{Counts}
@@ -8,8 +8,9 @@ use Rattle.tile_cache.specs.Asked.{StandsFor}
 use Rattle.tile_cache.specs.Bound.{IsFresh}
 use Rattle.tile_cache.specs.Getting.{pages_of}
 use Rattle.serve_plain.specs.declared.config.ServeCfg.{ServeCfg}
+use Rattle.request_text.specs.declared.limits.TheConstants.{MOST_REQUESTS}
 use Rattle.serve_plain.specs.declared.limits.TheConstants.{MOST_STANDARD}
-use Rattle.serve_session.specs.Tiling.{TilingValue, bytes_of, size_of, replies_to}
+use Rattle.serve_session.specs.Tiling.{TilingValue, bytes_of, size_of}
 
 -- its settings, the image with the side of its tiles, and its requests
 pub record RunValue : Type 0 where
@@ -25,12 +26,11 @@ IsUsed tiling cache = IsUsedWith (bytes_of tiling) (size_of tiling) cache
 abbrev pub all_counts : Counts → ℕ
 all_counts c = c.first + (c.kept + (c.rebuilt + c.again))
 
--- A client was served these tiles, of the side that the settings name, over this granter. The replies are theirs, and its cache stands for
--- them: each tile was counted once, no get was out of memory, and no piece is locked between two requests. The client was granted nothing
--- before, and its segments have few pages.
-pub record HasServed {G : Type 0} (run : RunValue) (asked : List Tile) (granter : G) (cache : Cached G) (replies : List ℕ) : Type 0 where
+-- A client was served these tiles, of the side that the settings name, over this granter. Its cache stands for them: each tile was counted
+-- once, no get was out of memory, and no piece is locked between two requests. The client was granted nothing before, and its segments have
+-- few pages.
+pub record HasServed {G : Type 0} (run : RunValue) (asked : List Tile) (granter : G) (cache : Cached G) : Type 0 where
   pub side : run.tiling.side ≡ run.cfg.side
-  pub answered : replies ≡ replies_to run.tiling asked
   pub stands : StandsFor asked cache
   pub used : IsUsed run.tiling cache
   pub count : all_counts cache.counts ≡ length asked
@@ -42,3 +42,8 @@ pub record HasServed {G : Type 0} (run : RunValue) (asked : List Tile) (granter 
   pub first_standard : cache.start.client.standard ≡ run.cfg.standard
   pub standard : cache.session.client.standard ≡ run.cfg.standard
   pub pages : pages_of cache.session.client ≤ length asked * MOST_STANDARD
+
+-- one tile more was served: what stands of the tiles before stands of these and this one
+abbrev pub ServesOne : {G : Type 0} → RunValue → Tile → Cached G → Cached G → Type 0
+ServesOne {G} run tile old new = (asked : List Tile) (granter : G) → length asked < MOST_REQUESTS
+    → HasServed run asked granter old → HasServed run (asked ++ tile ∷ []) granter new

@@ -5,8 +5,6 @@
 
 mod run;
 mod served;
-#[cfg(test)]
-mod tests;
 mod tiling;
 
 pub use run::Run;

@@ -6,16 +6,17 @@ ghost use Rattle.request_text.specs.Requests.{AreRequests};
 ghost use Rattle.serve_plain.specs.Config.{IsServeCfg};
 ghost use Rattle.serve_plain.specs.declared.limits.TheConstants.{MOST_CLIENTS, MOST_ROUNDS};
 ghost use Rattle.tile_source.specs.Tile.{IsTile};
-ghost use Rattle.tile_source.specs.declared.tile.Tile.{Tile as Square};
 ghost use Rattle.tile_cache.specs.Getting.{pages_of};
-ghost use Rattle.serve_session.specs.Tiling.{asked_by, replies_to, Makes};
+ghost use Rattle.serve_session.specs.Tiling.{reply_of, tile_at, HoldReplies, Makes};
+ghost use Rattle.serve_session.specs.Places.{numbers_of, tiles_at, AreEmpty, AreOfClient, IsAnswered, AreAnswered};
 ghost use Rattle.serve_session.specs.Served.{IsServed, counts_of};
-ghost use Rattle.serve_session.specs.Running.{HasServed, IsUsed};
+ghost use Rattle.serve_session.specs.Running.{HasServed, ServesOne, IsUsed};
 
 use crate::served::ServedClient;
 use crate::tiling::Tiling;
 use client::{Client, Granted};
 use discard_io::{Clock, Gate};
+use reply_block::{Layout, Place};
 use request_text::Requests;
 use segment::Granter;
 use serve_plain::{ServeCfg, Tally};
@@ -123,76 +124,106 @@ impl<'a, C: Clock, T: Gate> Run<'a, C, T> {
     }
 
     /// Serves a client's requests in their order, over what grants its segments, which has made no
-    /// grant yet. Request `k`, counted from 0, passes the gate at place `2 * k` under the client's
-    /// number, reads the clock, gets its tile and copies it out, reads the clock again, rests, and
-    /// passes the gate at place `2 * k + 1`. Then the cache is closed.
+    /// grant yet. Request `k` of the client, counted from 0, passes the gate at place `2 * k` under the
+    /// client's number, reads the clock, gets its tile and copies it out, reads the clock again, rests,
+    /// and passes the gate at place `2 * k + 1`. Then the cache is closed.
     ///
-    /// It answers the replies to these requests, what came of the client, and what granted its
-    /// segments. The one error is being out of memory.
-    pub fn serve_client<G: Granter + Drop, H: Threads + Wait + Sync>(
+    /// The reply to each request is written to the place of its number among all requests. It answers
+    /// what came of the client, and what granted its segments. The one error is being out of memory,
+    /// which leaves some places without a reply.
+    pub fn serve_client<G: Granter + Drop, L: Layout, H: Threads + Wait + Sync>(
         &self,
         rt: &H,
         alloc: Global,
         client: u32,
         granter: G,
-    ) -> Result<(Vec<u8>, ServedClient, G), NoMemory>
+        places: &mut [Place<L>],
+    ) -> Result<(ServedClient, G), NoMemory>
         requires somebody { 1 ≤ client }
         requires fresh { G.grants granter ≡ 0 }
-        ensures replies { IfOk result (λ r. r.0.items
-            ≡ replies_to self.now.tiling (asked_by client self.now.requests)) }
-        ensures client { IfOk result (λ r. IsServed self.now.cfg client self.now.requests r.1) }
-        ensures grants { IfOk result (λ r. G.grants r.2 ≡ r.1.tally.grants) }
-        ensures few { IfOk result (λ r. r.1.tally.grants ≤ MOST_REQUESTS) }
-        ensures standing { IfOk result (λ r. G.standing r.2 ≡ G.standing granter) }
+        requires sized { HoldReplies self.now.tiling L.size }
+        requires places { AreOfClient self.now client (numbers_of places.old) }
+        requires empty { AreEmpty places.old }
+        ensures numbers { numbers_of places.new ≡ numbers_of places.old }
+        ensures replies { OnOk result (AreAnswered self.now.tiling self.now.requests places.new) }
+        ensures client { IfOk result (λ r. IsServed self.now.cfg client self.now.requests r.0) }
+        ensures grants { IfOk result (λ r. G.grants r.1 ≡ r.0.tally.grants) }
+        ensures few { IfOk result (λ r. r.0.tally.grants ≤ MOST_REQUESTS) }
+        ensures standing { IfOk result (λ r. G.standing r.1 ≡ G.standing granter) }
     {
-        let tiles = self.asked(alloc, client)?;
+        let requests = places.len() as u64;
         let mut cache = self.cache(alloc, client, granter)?;
-        let replies = self.serve_tiles(rt, alloc, client, tiles.as_slice(), &mut cache)?;
+        self.serve_places(rt, alloc, client, &mut cache, places)?;
         let (end, granter) = cache.close_with(rt);
-        let tally = tally_of(client, tiles.len() as u64, &end);
-        Ok((replies, ServedClient { tally, end }, granter))
+        let tally = tally_of(client, requests, &end);
+        Ok((ServedClient { tally, end }, granter))
     }
 
-    /// The tiles that a client asks for, in the order of its requests.
-    fn asked(&self, alloc: Global, client: u32) -> Result<Vec<Tile>, NoMemory>
-        ensures tiles { IfOk result (λ tiles. tiles.items ≡ asked_by client self.now.requests) }
-        ensures few { IfOk result (λ tiles. length tiles.items ≤ MOST_REQUESTS) }
-        ensures valid { IfOk result (λ tiles. All IsTile tiles.items) }
-    {
-        let mut tiles = Vec::new(alloc);
-        for request in self.requests.as_slice() {
-            if request.client == client {
-                tiles.push(request.tile)?;
-            }
-        }
-        Ok(tiles)
-    }
-
-    /// Serves a client these tiles, in turn, with a cache that is new. It answers the replies.
-    fn serve_tiles<G: Granter + Drop, H: Threads + Wait + Sync>(
+    /// Serves a client the requests of these places, in turn, with a cache that is new.
+    fn serve_places<G: Granter + Drop, L: Layout, H: Threads + Wait + Sync>(
         &self,
         rt: &H,
         alloc: Global,
         client: u32,
-        tiles: &[Tile],
         cache: &mut Cache<G>,
-    ) -> Result<Vec<u8>, NoMemory>
-        requires few { length tiles.now ≤ MOST_REQUESTS }
-        requires valid { All IsTile tiles.now }
-        requires begun { (granter : G) × HasServed self.now [] granter cache.old [] }
-        ensures { IfOk result (λ replies. (granter : G)
-            → HasServed self.now [] granter cache.old []
-            → HasServed self.now tiles.now granter cache.new replies.items) }
+        places: &mut [Place<L>],
+    ) -> Result<(), NoMemory>
+        requires sized { HoldReplies self.now.tiling L.size }
+        requires few { length places.old ≤ MOST_REQUESTS }
+        requires within { All (λ n. n < length self.now.requests) (numbers_of places.old) }
+        requires empty { AreEmpty places.old }
+        requires begun { (granter : G) × HasServed self.now [] granter cache.old }
+        ensures numbers { numbers_of places.new ≡ numbers_of places.old }
+        ensures replies { OnOk result (AreAnswered self.now.tiling self.now.requests places.new) }
+        ensures served { OnOk result ((granter : G) → HasServed self.now [] granter cache.old
+            → HasServed self.now (tiles_at self.now.requests (numbers_of places.old)) granter cache.new) }
     {
         let mut maker = self.tiling.maker();
-        let mut replies = Vec::with_capacity(alloc, tiles.len() * self.tiling.reply_len())?;
-        for (count, tile) in tiles.iter().enumerate() {
-            let place = 2 * count as u64;
-            self.gate.pass(rt, client, place);
-            self.serve_tile(rt, alloc, *tile, cache, &mut maker, &mut replies)?;
-            self.gate.pass(rt, client, place + 1);
+        for count in 0..places.len() {
+            self.serve_place(
+                rt,
+                alloc,
+                client,
+                count,
+                cache,
+                &mut maker,
+                &mut places[count],
+            )?;
         }
-        Ok(replies)
+        Ok(())
+    }
+
+    /// Serves the request of a place, which is the client's request `count`, between its two places of
+    /// the gate.
+    fn serve_place<G: Granter + Drop, L: Layout, H: Threads + Wait + Sync>(
+        &self,
+        rt: &H,
+        alloc: Global,
+        client: u32,
+        count: usize,
+        cache: &mut Cache<G>,
+        maker: &mut ImageMaker<'_>,
+        place: &mut Place<L>,
+    ) -> Result<(), NoMemory>
+        requires few { count < MOST_REQUESTS }
+        requires sized { HoldReplies self.now.tiling L.size }
+        requires within { place.old.number < length self.now.requests }
+        requires empty { place.old.bytes ≡ [] }
+        requires maker { Makes self.now.tiling maker.old }
+        requires used { IsUsed self.now.tiling cache.old }
+        requires small { pages_of cache.old.session.client + MOST_PAGES < 2 ^ 32 }
+        ensures number { place.new.number ≡ place.old.number }
+        ensures maker { Makes self.now.tiling maker.new }
+        ensures reply { OnOk result (IsAnswered self.now.tiling self.now.requests place.new) }
+        ensures served { OnOk result (ServesOne self.now (tile_at self.now.requests place.old.number)
+            cache.old cache.new) }
+    {
+        let tile = self.requests.as_slice()[place.number()].tile;
+        let at = 2 * count as u64;
+        self.gate.pass(rt, client, at);
+        self.serve_tile(rt, alloc, tile, cache, maker, place)?;
+        self.gate.pass(rt, client, at + 1);
+        Ok(())
     }
 
     /// The cache of a client, over what grants its segments.
@@ -204,7 +235,7 @@ impl<'a, C: Clock, T: Gate> Run<'a, C, T> {
     ) -> Result<Cache<G>, NoMemory>
         requires somebody { 1 ≤ client }
         requires fresh { G.grants granter ≡ 0 }
-        ensures { IfOk result (λ cache. HasServed self.now [] granter cache []) }
+        ensures { IfOk result (λ cache. HasServed self.now [] granter cache) }
     {
         let client = Client::new(alloc, client, self.cfg.standard)?;
         let granted = Granted::new(client, granter);
@@ -214,29 +245,30 @@ impl<'a, C: Clock, T: Gate> Run<'a, C, T> {
         }
     }
 
-    /// Serves one request: the tile is shown, copied behind its head, and let go.
-    fn serve_tile<G: Granter + Drop, H: Threads + Wait + Sync>(
+    /// Shows a tile, copies it to a place behind its head, and lets it go.
+    fn serve_tile<G: Granter + Drop, L: Layout, H: Threads + Wait + Sync>(
         &self,
         rt: &H,
         alloc: Global,
         tile: Tile,
         cache: &mut Cache<G>,
         maker: &mut ImageMaker<'_>,
-        replies: &mut Vec<u8>,
+        place: &mut Place<L>,
     ) -> Result<(), NoMemory>
         requires tile { IsTile tile }
+        requires sized { HoldReplies self.now.tiling L.size }
+        requires empty { place.old.bytes ≡ [] }
         requires maker { Makes self.now.tiling maker.old }
         requires used { IsUsed self.now.tiling cache.old }
         requires small { pages_of cache.old.session.client + MOST_PAGES < 2 ^ 32 }
+        ensures number { place.new.number ≡ place.old.number }
         ensures maker { Makes self.now.tiling maker.new }
-        ensures served { OnOk result ((asked : List Square) (granter : G)
-            → length asked < MOST_REQUESTS
-            → HasServed self.now asked granter cache.old replies.old.items
-            → HasServed self.now (asked ++ tile ∷ []) granter cache.new replies.new.items) }
+        ensures reply { OnOk result (place.new.bytes ≡ reply_of self.now.tiling tile) }
+        ensures served { OnOk result (ServesOne self.now tile cache.old cache.new) }
     {
         let (_, bytes) = cache.get(rt, alloc, maker, tile, self.clock.now())?;
-        replies.extend_from_slice(self.tiling.head())?;
-        replies.extend_from_slice(bytes)?;
+        place.append(self.tiling.head());
+        place.append(bytes);
         cache.rest(self.clock.now());
         Ok(())
     }

@@ -1,9 +1,8 @@
-ghost use Rattle.std.specs.Prelude.{◌≡◌, ◌≤◌, length, IfOk};
-ghost use Rattle.tile_source.specs.declared.tile.Tile.{Tile as Square};
+ghost use Rattle.std.specs.Prelude.{◌≡◌, ◌≤◌, IfOk};
 ghost use Rattle.tile_source.specs.Pgm.{head};
 ghost use Rattle.serve_plain.specs.Config.{IsSide};
 ghost use Rattle.serve_session.specs.declared.tiling.TheConstants.{MOST_REPLY};
-ghost use Rattle.serve_session.specs.Tiling.{Makes, reply_of};
+ghost use Rattle.serve_session.specs.Tiling.{Makes, HoldReplies};
 
 use std::alloc::Global;
 use std::marker::Model;
@@ -66,9 +65,10 @@ impl<'a> Tiling<'a> {
         ImageMaker::new(self.image, self.side)
     }
 
-    /// How many bytes each reply has: at most 65,551.
+    /// How many bytes each reply has: at least 1, and at most 65,551.
     pub fn reply_len(&self) -> usize
-        ensures every { (asked : Square) → length (reply_of self.now asked) ≡ result }
+        ensures every { HoldReplies self.now result }
+        ensures some { 1 ≤ result }
         ensures short { result ≤ MOST_REPLY }
     {
         self.head().len() + self.side as usize * self.side as usize

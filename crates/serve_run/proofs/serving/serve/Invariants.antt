@@ -11,3 +11,7 @@ ghosts-serve_as-G-Ledger g a = record { name = a.grants.name; parts = a.grants.p
 
 abbrev pub ghosts-serve_as-E-Ledger : goal.ghosts-serve_as-E-Ledger
 ghosts-serve_as-E-Ledger g a = record { name = a.rounds.name; parts = a.rounds.parts }
+
+-- where the places lie
+abbrev pub ghosts-serve_as-F-Layout : goal.ghosts-serve_as-F-Layout
+ghosts-serve_as-F-Layout g a = record { base = a.room.base; size = a.room.size; count = a.room.count }

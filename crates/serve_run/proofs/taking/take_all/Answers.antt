@@ -1,46 +1,64 @@
-use Rattle.std.proofs.Common.{◌+◌, ◌*◌, ◌≤◌, ℕ, ◌∙◌, sym, subst, length, IfOk, arith}
+use Rattle.std.proofs.Common.{◌+◌, ◌*◌, ◌≤◌, ℕ, ◌∙◌, sym, subst, length, IfSome, arith}
 use Rattle.std.proofs.lemmas.List.{length_push}
 use Rattle.std.proofs.lemmas.Iterator.Adapters.{YieldsList-from_vec}
 use Rattle.std.proofs.lemmas.Iterator.Consumers.{YieldsList-turn, YieldsList-end}
-use Rattle.serve_session.specs.Served.{all_grants}
-use Rattle.serve_run.specs.Working.{WasServed, HasTaken}
+use Rattle.serve_session.specs.Served.{IsServed, all_grants}
+use Rattle.serve_run.specs.Working.{HasTaken}
+use Rattle.serve_run.proofs.ListsGrow.{none_taken}
 use Rattle.serve_run.proofs.taking.take_all.Goals as goal
+
+pub loop-desk-init : goal.loop-desk-init
+loop-desk-init g c = none_taken c.args.run.now c.args.shares _ c.new.ensures.items
 
 pub take_one-requires-clause-parts : goal.take_one-requires-clause-parts
 take_one-requires-clause-parts g c =
-    let gives = c.into_iter-end-iterator.ensures.into_iter_gives in
-    let at = YieldsList-turn (YieldsList-from_vec c.args.ends.items gives.0 (gives.1 ∙ c.args.ends.ok.0)) c.loop-end.yielded c.loop-end.end-iterator c.loop-end.yielded_by
-    c.next.result c.next.new.self c.in-Some.end c.in-Some.is c.next.ensures.steps in
-    omega (arith, at.0, c.requires.ends.all, c.requires.parts, c.loop-end.invariant.parts)
+    let gives = c.into_iter-desk-iterator.ensures.into_iter_gives in
+    let at = YieldsList-turn (YieldsList-from_vec c.args.desks.items gives.0 (gives.1 ∙ c.args.desks.ok.0)) c.loop-desk.yielded c.loop-desk.desk-iterator c.loop-desk.yielded_by
+    c.next.result c.next.new.self c.in-Some.desk c.in-Some.is c.next.ensures.steps in
+    omega (arith, at.0, c.requires.all, c.requires.parts, c.loop-desk.invariant.parts)
 
 pub take_one-requires-clause-grants : goal.take_one-requires-clause-grants
 take_one-requires-clause-grants g c =
-    let gives = c.into_iter-end-iterator.ensures.into_iter_gives in
-    let at = YieldsList-turn (YieldsList-from_vec c.args.ends.items gives.0 (gives.1 ∙ c.args.ends.ok.0)) c.loop-end.yielded c.loop-end.end-iterator c.loop-end.yielded_by
-    c.next.result c.next.new.self c.in-Some.end c.in-Some.is c.next.ensures.steps in
-    let few : all_grants c.loop-end.taken.clients.items ≤ length c.loop-end.yielded * 4096 = c.loop-end.invariant.few in
-    omega (arith, at.0, c.requires.ends.all, c.requires.few, c.requires.grants, c.loop-end.invariant.grants, few)
+    let gives = c.into_iter-desk-iterator.ensures.into_iter_gives in
+    let at = YieldsList-turn (YieldsList-from_vec c.args.desks.items gives.0 (gives.1 ∙ c.args.desks.ok.0)) c.loop-desk.yielded c.loop-desk.desk-iterator c.loop-desk.yielded_by
+    c.next.result c.next.new.self c.in-Some.desk c.in-Some.is c.next.ensures.steps in
+    let few : all_grants c.loop-desk.taken.clients.items ≤ length c.loop-desk.yielded * 4096 = c.loop-desk.invariant.few in
+    omega (arith, at.0, c.requires.all, c.requires.few, c.requires.grants, c.loop-desk.invariant.grants, few)
 
-pub loop-end-preserved : goal.loop-end-preserved
-loop-end-preserved g c =
-    let gives = c.into_iter-end-iterator.ensures.into_iter_gives in
-    let ends = c.args.ends.items in
-    let n : ℕ = length c.loop-end.yielded in
-    let at = YieldsList-turn (YieldsList-from_vec ends gives.0 (gives.1 ∙ c.args.ends.ok.0)) c.loop-end.yielded c.loop-end.end-iterator c.loop-end.yielded_by
-    c.next.result c.next.new.self c.in-Some.end c.in-Some.is c.next.ensures.steps in
-    let low = at.0 in
-    let told = c.requires.ends.each n c.in-Some.end (omega (arith, low, c.requires.ends.all)) in
-    let this : WasServed c.args.run.now (n + 1) c.in_ok-end.end.replies.items c.in_ok-end.end.served =
-    subst (λ r. IfOk r (λ e. WasServed c.args.run.now (n + 1) e.replies.items e.served)) c.in_ok-end.was
-    (subst (λ r. IfOk r (λ e. WasServed c.args.run.now (n + 1) e.replies.items e.served)) (sym at.1) told) in
-    subst (λ k. HasTaken (λ b. b.items) c.args.run.now k c.args.shares c.take_one.new.taken.shares c.take_one.new.taken.blocks.items c.take_one.new.taken.clients.items)
-    (sym (length_push c.loop-end.yielded c.in-Some.end))
-    (c.in_ok-take_one.ensures c.args.run.now n c.args.shares c.loop-end.invariant this)
+pub loop-desk-preserved : goal.loop-desk-preserved
+loop-desk-preserved g c =
+    let gives = c.into_iter-desk-iterator.ensures.into_iter_gives in
+    let desks = c.args.desks.items in
+    let n : ℕ = length c.loop-desk.yielded in
+    let at = YieldsList-turn (YieldsList-from_vec desks gives.0 (gives.1 ∙ c.args.desks.ok.0)) c.loop-desk.yielded c.loop-desk.desk-iterator c.loop-desk.yielded_by
+    c.next.result c.next.new.self c.in-Some.desk c.in-Some.is c.next.ensures.steps in
+    let told = c.requires.served n c.in-Some.desk at.0 in
+    let this : IsServed c.args.run.now.cfg (n + 1) c.args.run.now.requests c.in-Some-ended.ended.served =
+    subst (λ o. IfSome o (λ e. IsServed c.args.run.now.cfg (n + 1) c.args.run.now.requests e.served)) c.in-Some-ended.is
+    (subst (λ d. IfSome d.ended (λ e. IsServed c.args.run.now.cfg (n + 1) c.args.run.now.requests e.served)) (sym at.1) told) in
+    subst (λ k. HasTaken c.args.run.now k c.args.shares c.take_one.new.taken.shares c.take_one.new.taken.clients.items)
+    (sym (length_push c.loop-desk.yielded c.in-Some.desk))
+    (c.in_ok-take_one.ensures c.args.run.now n c.args.shares c.loop-desk.invariant this)
+
+pub loop-desk-preserved-in_ok-take_one : goal.loop-desk-preserved-in_ok-take_one
+loop-desk-preserved-in_ok-take_one g c =
+    let gives = c.into_iter-desk-iterator.ensures.into_iter_gives in
+    let desks = c.args.desks.items in
+    let n : ℕ = length c.loop-desk.yielded in
+    let at = YieldsList-turn (YieldsList-from_vec desks gives.0 (gives.1 ∙ c.args.desks.ok.0)) c.loop-desk.yielded c.loop-desk.desk-iterator c.loop-desk.yielded_by
+    c.next.result c.next.new.self c.in-Some.desk c.in-Some.is c.next.ensures.steps in
+    let told = c.requires.served n c.in-Some.desk at.0 in
+    let this : IsServed c.args.run.now.cfg (n + 1) c.args.run.now.requests c.in-Some-ended.ended.served =
+    subst (λ o. IfSome o (λ e. IsServed c.args.run.now.cfg (n + 1) c.args.run.now.requests e.served)) c.in-Some-ended.is
+    (subst (λ d. IfSome d.ended (λ e. IsServed c.args.run.now.cfg (n + 1) c.args.run.now.requests e.served)) (sym at.1) told) in
+    subst (λ k. HasTaken c.args.run.now k c.args.shares c.take_one.new.taken.shares c.take_one.new.taken.clients.items)
+    (sym (length_push c.loop-desk.yielded c.in-Some.desk))
+    (c.in_ok-take_one.ensures c.args.run.now n c.args.shares c.loop-desk.invariant this)
 
 pub returns : goal.returns
 returns g c =
-    let gives = c.into_iter-end-iterator.ensures.into_iter_gives in
-    let over = YieldsList-end (YieldsList-from_vec c.args.ends.items gives.0 (gives.1 ∙ c.args.ends.ok.0)) c.loop-end.yielded c.loop-end.end-iterator c.loop-end.yielded_by
+    let gives = c.into_iter-desk-iterator.ensures.into_iter_gives in
+    let over = YieldsList-end (YieldsList-from_vec c.args.desks.items gives.0 (gives.1 ∙ c.args.desks.ok.0)) c.loop-desk.yielded c.loop-desk.desk-iterator c.loop-desk.yielded_by
     c.next.result c.next.new.self c.in-None.is c.next.ensures.steps in
-    subst (λ k. HasTaken (λ b. b.items) c.args.run.now k c.args.shares c.loop-end.taken.shares c.loop-end.taken.blocks.items c.loop-end.taken.clients.items)
-    (over.1 ∙ c.requires.ends.all) c.loop-end.invariant
+    subst (λ k. HasTaken c.args.run.now k c.args.shares c.loop-desk.taken.shares c.loop-desk.taken.clients.items)
+    (over.1 ∙ c.requires.all) c.loop-desk.invariant

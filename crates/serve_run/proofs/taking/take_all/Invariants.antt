@@ -2,5 +2,5 @@ use Rattle.std.proofs.Common.{length}
 use Rattle.serve_run.specs.Working.{HasTaken}
 use Rattle.serve_run.proofs.taking.take_all.Given as goal
 
-abbrev pub invariant-loop-end : goal.invariant-loop-end
-invariant-loop-end g l = HasTaken (λ b. b.items) l.run (length l.yielded) l.fn.shares l.taken.shares l.taken.blocks.items l.taken.clients.items
+abbrev pub invariant-loop-desk : goal.invariant-loop-desk
+invariant-loop-desk g l = HasTaken l.run (length l.yielded) l.fn.shares l.taken.shares l.taken.clients.items

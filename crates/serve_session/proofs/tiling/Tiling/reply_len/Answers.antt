@@ -1,7 +1,7 @@
 use Rattle.std.proofs.Common.{◌≡◌, ℕ, ◌+◌, ◌*◌, ◌≤◌, length, ap, sym, subst, ◌∙◌, arith}
 use Rattle.tile_source.specs.declared.limits.TheConstants.{MOST_MAXVAL}
 use Rattle.tile_source.specs.Pgm.{head}
-use Rattle.serve_session.proofs.Replies.{length_reply, side_low, square_low, head_short}
+use Rattle.serve_session.proofs.Replies.{length_reply, side_low, square_low, square_some, head_short}
 use Rattle.serve_session.proofs.tiling.Tiling.reply_len.Goals as goal
 
 pub returns-clause-every : goal.returns-clause-every
@@ -20,4 +20,11 @@ returns-clause-short c =
     let len : length c.head.result.now ≡ length (head t.side t.side t.image.maxval) = ap length c.head.ensures in
     let deep : t.image.maxval ≤ MOST_MAXVAL = subst (λ v. v.image.maxval ≤ MOST_MAXVAL) c.self.view_is c.self.invariant.1 in
     let short : length (head t.side t.side t.image.maxval) ≤ 15 = head_short t.side t.image.maxval (omega arith) (omega arith) in
+    omega arith
+
+pub returns-clause-some : goal.returns-clause-some
+returns-clause-some c =
+    let t = c.args.self.now in
+    let side : c.self.inside.side ≡ t.side = ap (λ v. v.side) c.self.view_is in
+    let high : 1 ≤ c.self.inside.side * c.self.inside.side = square_some c.self.inside.side c.self.invariant.0 in
     omega arith
