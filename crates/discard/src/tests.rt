@@ -1,3 +1,5 @@
+ghost use Rattle.std.specs.Prelude.{◌≤◌};
+
 use crate::report::reported;
 use crate::top::{Ended, Run, discard};
 use discard_io::{CountClock, MemFiles, MemSink, MemSource, OpenGate, Status};
@@ -25,7 +27,7 @@ impl Devices {
         files.add(alloc, "--x", file)?;
         Ok(Devices {
             input: MemSource::new(alloc, script.as_bytes(), 5, &[])?,
-            out: MemSink::new(alloc, 300_000, 4096, &[])?,
+            out: MemSink::new(alloc, 1_100_000, 4096, &[])?,
             report: MemSink::new(alloc, 1000, 7, &[])?,
             files,
         })
@@ -205,6 +207,117 @@ fn other_words_are_usage(rt: HostRuntime) -> Result<(), Fail> {
     ] {
         assert!(rt; is_refused(&rt, rt.alloc(), words, "", "discard: usage\n")?);
     }
+    Ok(())
+}
+
+/// A file of 600 by 400 samples, of which the one at (x, y) is x + y, modulo 256.
+fn ramp(alloc: Global) -> Result<Vec<u8>, Fail> {
+    let mut file = Vec::from_slice(alloc, b"P5\n# photo\n600 400\n255\n")?;
+    for y in 0..400_u32 {
+        for x in 0..600_u32 {
+            file.push(((x + y) % 256) as u8)?;
+        }
+    }
+    Ok(file)
+}
+
+/// Eight tiles of 16 pages each, and the same again.
+const SIXTEEN: &str = "1 0 0 0
+1 0 1 0
+1 0 2 0
+1 0 0 1
+1 0 1 1
+1 0 2 1
+1 1 0 0
+1 1 1 0
+1 0 0 0
+1 0 1 0
+1 0 2 0
+1 0 0 1
+1 0 1 1
+1 0 2 1
+1 1 0 0
+1 1 1 0
+";
+
+/// Request `k`, from 1, is served at moment `2 * k - 1` and rests at `2 * k`, and a segment has room for
+/// four tiles.
+const REPORT: &str = "grant 1 1 64 64
+purge 1 8
+reduced 0 9 0 -
+grant 2 1 64 64
+purge 2 16
+reduced 0 17 0 -
+grant 3 1 64 64
+purge 3 24
+reduced 0 25 0 -
+grant 4 1 64 64
+back 4
+client 1 requests 16 first 8 kept 0 rebuilt 8 again 0 grants 4
+granted 0
+";
+
+/// What serving the sixteen requests wrote, with these words.
+fn served<H: Threads + Wait + Sync>(
+    rt: &H,
+    alloc: Global,
+    words: &str,
+    file: &[u8],
+) -> Result<Devices, Fail> {
+    let mut devices = Devices::new(alloc, SIXTEEN, file)?;
+    let ended = run(rt, alloc, words, &mut devices)?;
+    if ended.status != Status::Done || !matches!(ended.run, Run::Serve(_)) {
+        return Err(Fail::new("the run was not served"));
+    }
+    Ok(devices)
+}
+
+#[test]
+fn tiles_are_served_within_a_limit(rt: HostRuntime) -> Result<(), Fail> {
+    let alloc = rt.alloc();
+    let file = ramp(alloc)?;
+    let narrow = served(
+        &rt,
+        alloc,
+        "serve a.pgm --clients 1 --limit 64 --entries 16",
+        &file,
+    )?;
+    let wide = served(
+        &rt,
+        alloc,
+        "serve a.pgm --clients 1 --limit 16384 --entries 16",
+        &file,
+    )?;
+    assert!(rt; narrow.report.written() == REPORT.as_bytes());
+    assert!(rt; narrow.out.written().len() == 16 * 65_551);
+    assert!(rt; narrow.out.written() == wide.out.written());
+    Ok(())
+}
+
+/// How a run of one request ends, and how much it wrote, where these calls of the input and of the output
+/// fail, and the output takes so many bytes a call.
+fn faults<H: Threads + Wait + Sync>(
+    rt: &H,
+    alloc: Global,
+    reads: &[u64],
+    writes: &[u64],
+    most: u32,
+) -> Result<(Status, usize), Fail>
+    requires { 1 ≤ most }
+{
+    let mut devices = Devices::new(alloc, "", b"P5 1 1 255\n\x07")?;
+    devices.input = MemSource::new(alloc, b"1 0 0 0", 5, reads)?;
+    devices.out = MemSink::new(alloc, 300_000, most, writes)?;
+    let ended = run(rt, alloc, "serve a.pgm", &mut devices)?;
+    Ok((ended.status, devices.out.written().len()))
+}
+
+#[test]
+fn faults_end_a_served_run(rt: HostRuntime) -> Result<(), Fail> {
+    let alloc = rt.alloc();
+    assert!(rt; faults(&rt, alloc, &[1], &[], 4096)? == (Status::ReadFault, 0));
+    assert!(rt; faults(&rt, alloc, &[], &[1], 4096)? == (Status::WriteFault, 0));
+    assert!(rt; faults(&rt, alloc, &[], &[2], 100)? == (Status::WriteFault, 100));
     Ok(())
 }
 

@@ -1,8 +1,9 @@
-ghost use Rattle.std.specs.Prelude.{◌≡◌};
+ghost use Rattle.std.specs.Prelude.{◌≡◌, ◌≤◌};
 ghost use Rattle.serve_plain.specs.Config.{IsServeCfg};
+ghost use Rattle.serve_plain.specs.declared.limits.TheConstants.{MOST_ROUNDS};
 
 use crate::{report_text, serve};
-use discard_io::{Clock, CountClock, Gate, OpenGate};
+use discard_io::{Clock, CountClock, Gate, MeetGate, OpenGate};
 use request_text::read_requests;
 use serve_plain::{ServeCfg, Tally};
 use std::alloc::Global;
@@ -107,8 +108,9 @@ impl Gate for Trace {
     }
 }
 
-/// Two clients, three enforcements, and a limit that fits all tiles.
-fn settings_of_two() -> ServeCfg
+/// Two clients beside so many enforcements, and a limit that fits all tiles.
+fn settings_of_two(rounds: u32) -> ServeCfg
+    requires { rounds ≤ MOST_ROUNDS }
     ensures lawful { IsServeCfg result }
     ensures clients { result.clients ≡ 2 }
 {
@@ -117,7 +119,7 @@ fn settings_of_two() -> ServeCfg
         limit: 64,
         side: 64,
         entries: 4,
-        rounds: 3,
+        rounds,
         standard: 1,
         keep: 0,
     }
@@ -174,7 +176,7 @@ fn each_client_is_served_at_its_places_of_the_gate(rt: HostRuntime) -> Result<()
     let alloc = rt.alloc();
     let image = read_pgm(alloc, IMAGE)?;
     let requests = read_requests(alloc, 2, REQUESTS_OF_TWO)?;
-    let cfg = settings_of_two();
+    let cfg = settings_of_two(3);
     let clock = CountClock::new(1);
     let gate = Trace::new();
     let served = serve(&rt, alloc, &cfg, &image, &requests, &clock, &gate)?;
@@ -189,5 +191,18 @@ fn each_client_is_served_at_its_places_of_the_gate(rt: HostRuntime) -> Result<()
     assert!(rt; gate.is_whole());
     // The clock was read once for each enforcement, and twice for each request.
     assert!(rt; clock.now() == 14);
+    Ok(())
+}
+
+#[test]
+fn two_clients_run_at_once(rt: HostRuntime) -> Result<(), Fail> {
+    let alloc = rt.alloc();
+    let image = read_pgm(alloc, IMAGE)?;
+    let requests = read_requests(alloc, 2, b"1 0 0 0\n2 0 1 0\n")?;
+    let cfg = settings_of_two(0);
+    let clock = CountClock::new(1);
+    let gate = MeetGate::new();
+    let _served = serve(&rt, alloc, &cfg, &image, &requests, &clock, &gate)?;
+    assert!(rt; !gate.stuck() && gate.passes() == 4);
     Ok(())
 }
