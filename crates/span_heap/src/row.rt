@@ -1,5 +1,5 @@
 //! A segment in the table of pages.
-ghost use Rattle.std.specs.Prelude.{◌≡◌, ◌+◌, ◌-◌, ◌*◌, [], ◌++◌, ◌^◌, ◌<◌, ◌≤◌, vec_len, vec_capacity, length, position, filter, slice_index_or, IsTrue, IfOk, OnOk};
+ghost use Rattle.std.specs.Prelude.{◌≡◌, ◌+◌, ◌-◌, ◌*◌, [], ◌∷◌, ◌++◌, ◌^◌, ◌<◌, ◌≤◌, vec_len, vec_capacity, length, position, filter, slice_index_or, IsTrue, IfOk, OnOk};
 ghost use Rattle.std.specs.List.{list_any};
 ghost use Rattle.span_heap.specs.Table.{has_pages, is_row, AreDropped, RowStands, IsRowOf, Widens, row_places};
 
@@ -214,9 +214,23 @@ pub(crate) fn row_of(rows: &[PageRow], id: u64, near: usize) -> usize
     }
 }
 
-/// Takes out the rows of dropped segments, where they are more than half of all. `dropped` is how
-/// many they are.
-pub(crate) fn take_out_dropped(rows: &mut Vec<PageRow>, dropped: &mut usize)
+/// Adds a row as the last one. Then those of dropped segments are taken out, where they are more than
+/// half of all. `dropped` is how many they are.
+pub(crate) fn push_row(rows: &mut Vec<PageRow>, dropped: &mut usize, row: PageRow)
+    requires room { vec_len rows.old < vec_capacity rows.old }
+    requires live { 1 ≤ length row.places }
+    requires counted { AreDropped rows.old.items dropped.old }
+    ensures counted { AreDropped rows.new.items dropped.new }
+    ensures living { filter has_pages rows.new.items ≡ filter has_pages (rows.old.items ++ row ∷ []) }
+    ensures few { 2 * dropped.new ≤ length rows.new.items }
+{
+    rows.push_reserved(row);
+    take_out_dropped(rows, dropped);
+}
+
+/// Takes out the rows of dropped segments, where they are more than half of all. That costs one pass
+/// over the rows, and at least half of them were dropped since the last one.
+fn take_out_dropped(rows: &mut Vec<PageRow>, dropped: &mut usize)
     requires { AreDropped rows.old.items dropped.old }
     ensures counted { AreDropped rows.new.items dropped.new }
     ensures living { filter has_pages rows.new.items ≡ filter has_pages rows.old.items }

@@ -10,7 +10,7 @@ ghost use Rattle.span_heap.specs.Table.{AreSized, BeginFrom, CanCome, IsEmptied,
 ghost use Rattle.span_heap.specs.Table.{NoneBegins, OneBefore, OneBehind, page_of, without_before, without_behind};
 
 use crate::placed::PlacedRuns;
-use crate::row::{PageRow, find_row, guess_row, new_places, row_of, take_out_dropped, widen_all};
+use crate::row::{PageRow, find_row, guess_row, new_places, push_row, row_of, widen_all};
 use crate::run::Run;
 use std::alloc::Global;
 use std::marker::Model;
@@ -80,30 +80,6 @@ impl PageTable {
         ensures free { self.new.free ≡ self.old.free }
         ensures used { self.new.used ≡ self.old.used }
     {
-        self.settle();
-        self.add_row(alloc, id, pages)
-    }
-
-    /// Takes out the rows of dropped segments where they are more than half of all. This costs one
-    /// pass over the rows, and at least half of them were dropped since the last one.
-    fn settle(&mut self)
-        ensures { self.new ≡ self.old }
-    {
-        take_out_dropped(&mut self.rows, &mut self.dropped);
-    }
-
-    /// Adds the row of a segment that has no run, with places for its pages.
-    fn add_row(&mut self, alloc: Global, id: u64, pages: u32) -> Result<(), NoMemory>
-        requires fresh { IsFalse (has_segment self.old.segments id) }
-        requires sized { 1 ≤ pages }
-        requires small { size_of self.old.segments + pages < 2 ^ 32 }
-        requires none_free { NoneIn id self.old.free }
-        requires none_used { NoneIn id self.old.used }
-        ensures grown { OnOk result (Joins self.old.segments self.new.segments id pages) }
-        ensures same { OnErr result (self.new.segments ≡ self.old.segments) }
-        ensures free { self.new.free ≡ self.old.free }
-        ensures used { self.new.used ≡ self.old.used }
-    {
         let size = self.runs.len() as u32;
         let keep = self.spare.len() - self.spare.len().min(pages as usize);
         let fresh = pages - (self.spare.len() - keep) as u32;
@@ -119,7 +95,7 @@ impl PageTable {
         )?;
         self.runs.extend(alloc, fresh)?;
         self.spare.truncate(keep);
-        self.rows.push_reserved(PageRow::new(id, places));
+        push_row(&mut self.rows, &mut self.dropped, PageRow::new(id, places));
         Ok(())
     }
 
