@@ -9,6 +9,7 @@ pub mod UsedPagesAreCounted
 pub mod ByClass
 pub mod PlacedRunsKeepTheirPlaces
 pub mod TableTellsEachRun
+pub mod RowsTellAlike
 pub mod SegmentsJoinTheTable
 pub mod HeapOverTheTable
 pub mod SegmentsLeaveTheTable

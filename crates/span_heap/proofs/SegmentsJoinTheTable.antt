@@ -1,32 +1,32 @@
 -- A segment joins the table: its pages get places of dropped segments first, and new ones behind.
 use Rattle.std.proofs.Common.{◌≡◌, ◌≢◌, ℕ, zero, suc, ◌+◌, ◌-◌, ◌^◌, ◌<◌, ◌≤◌, Bool, true, false, cond, eqb, leb, List, [], ◌∷◌, ◌++◌, length, map, take, drop, get_or, refl, sym, ◌∙◌, ap, subst, arith, ◌⊎◌, inl, inr, ⊎_elim, append_assoc}
-use Rattle.std.specs.List.{sum_by, count_by, filter, list_any, range_with_len, All, Contains}
+use Rattle.std.specs.List.{count_by, filter, list_any, range_with_len, All, Contains}
 use Rattle.std.proofs.Math.ListN.{get_or-append}
 use Rattle.std.proofs.Math.Seq.{get_or-append_seam}
 use Rattle.std.proofs.lemmas.List.{map-append, length-append, length-drop, take-append-drop}
 use Rattle.std.proofs.lemmas.List.FromFn.{length-range_with_len, get_or-range_with_len}
 use Rattle.std.proofs.lemmas.List.Sums.{sum_by-cons, sum_by-append, sum_by_push}
-use Rattle.std.proofs.lemmas.List.Elements.{All-contains, Contains-get_or, Contains-append_left, Contains-append_right, Contains-append_cases}
-use Rattle.std.proofs.lemmas.Bool.{and_parts, eqb-true, eq-eqb, ne_eqb, cases_eq, cases_lt, cases_Bool}
+use Rattle.std.proofs.lemmas.List.Elements.{filter-append, All-contains, Contains-get_or, Contains-append_left, Contains-append_right, Contains-append_cases}
+use Rattle.std.proofs.lemmas.Bool.{and_parts, and_left, eqb-true, eq-eqb, ne_eqb, cases_eq, cases_lt, cases_Bool}
 use Rattle.std.proofs.lemmas.Bool.Decides.{nat_tests}
 use Rattle.span_heap.specs.declared.run.Run.{Run}
 use Rattle.span_heap.specs.Run.{lies_in, begins_at, pages_of}
-use Rattle.span_heap.specs.Segment.{Segment}
+use Rattle.span_heap.specs.Heap.{size_of}
 use Rattle.span_heap.specs.Changes.{NoneIn, segment_of}
 use Rattle.span_heap.specs.Placed.{Placed, run_at, free_of, used_of, IsDistinct}
-use Rattle.span_heap.specs.Table.{Row, shown_row, is_row, row_at, width_at, place_at, AreApart, ArePlaces, HasKey, stops_at, MarksTell, CountsTell, IsClear, Widens, HoldsRuns, row_places}
+use Rattle.span_heap.specs.Table.{Row, no_row, has_pages, shown_row, shown_rows, AreDropped, is_row, row_at, width_at, place_at, AreApart, ArePlaces, HasKey, stops_at, MarksTell, CountsTell, IsClear, Widens, HoldsRuns, row_places}
 use Rattle.span_heap.proofs.PartitionByCounts.{count_of_absent}
 use Rattle.span_heap.proofs.UsedPagesAreCounted.{one_place}
 use Rattle.span_heap.proofs.PlacedRunsKeepTheirPlaces.{none_counted, one_counted}
-use Rattle.span_heap.proofs.TableTellsEachRun.{wide_within, all_false}
+use Rattle.span_heap.proofs.TableTellsEachRun.{wide_passes, rows_size, wide_within, stands_at, all_false}
 
 -- the rows with one more
 
 pub old_row : (rows : List Row) (row : Row) (at : ℕ) → at < length rows → row_at (rows ++ row ∷ []) at ≡ row_at rows at
-old_row rows row at low = get_or-append rows (row ∷ []) (record { id = 0; places = [] }) at low
+old_row rows row at low = get_or-append rows (row ∷ []) no_row at low
 
 pub new_row : (rows : List Row) (row : Row) → row_at (rows ++ row ∷ []) (length rows) ≡ row
-new_row rows row = get_or-append_seam rows row [] (record { id = 0; places = [] })
+new_row rows row = get_or-append_seam rows row [] no_row
 
 -- a page of the rows lies in an old row or in the new one
 page_cases : (rows : List Row) (row : Row) (at page : ℕ) → page < width_at (rows ++ row ∷ []) at
@@ -58,9 +58,9 @@ in_range a n p (k, within, is) =
     let at : a + k ≡ p = sym (get_or-range_with_len a n k p low) ∙ is in
     (omega (arith, at), omega (arith, at, low))
 
--- a row of these places
+-- a row of these places, of which none is used
 abbrev pub row_of_places : ℕ → List ℕ → Row
-row_of_places id places = record { id = id; places = places }
+row_of_places id places = record { id = id; places = places; used = 0 }
 
 spare_there : (spare : List ℕ) (keep p : ℕ) → Contains (drop keep spare) p → Contains spare p
 spare_there spare keep p there = subst (λ xs. Contains xs p) (take-append-drop keep spare) (Contains-append_right (take keep spare) (drop keep spare) p there)
@@ -143,13 +143,13 @@ ArePlaces-grown rows spare size id keep fresh places absent small =
     go : (other : ℕ) → (id ≡ other) ⊎ (id ≢ other) → count_by (is_row other) (rows ++ row ∷ []) ≤ 1
     go other (inl same) =
         let none : count_by (is_row other) rows ≡ 0 = subst (λ i. count_by (is_row i) rows ≡ 0) same (count_of_absent (is_row id) rows absent) in
-        omega (arith, none, sum_by_push (λ r. cond {A = ℕ} (is_row other r) 1 0) rows row, at_most (eqb id other))
+        omega (arith, none, sum_by_push (λ r. cond {A = ℕ} (is_row other r) 1 0) rows row, at_most (is_row other row))
       where
         at_most : (b : Bool) → cond {A = ℕ} b 1 0 ≤ 1
         at_most true = omega arith
         at_most false = omega arith
     go other (inr apart_from) =
-        omega (arith, places.distinct other, sum_by_push (λ r. cond {A = ℕ} (is_row other r) 1 0) rows row, ap {B = ℕ} (λ b. cond b 1 0) (ne_eqb id other apart_from))
+        omega (arith, places.distinct other, sum_by_push (λ r. cond {A = ℕ} (is_row other r) 1 0) rows row, ap {B = ℕ} (λ b. cond b 1 0) (and_left (eqb id other) (has_pages row) (ne_eqb id other apart_from)))
 
     below : (here is : Row) (page : ℕ) → here ≡ is → get_or is.places page 0 < size + fresh → get_or here.places page 0 < size + fresh
     below here is page same low = subst (λ (r : Row). get_or r.places page 0 < size + fresh) (sym same) low
@@ -197,13 +197,14 @@ ArePlaces-grown rows spare size id keep fresh places absent small =
               ]
         ]
 
-    full : sum_by (λ (s : Segment). s.pages) (map shown_row (rows ++ row ∷ [])) + length (take keep spare) ≡ size + fresh
+    full : size_of (shown_rows (rows ++ row ∷ [])) + length (take keep spare) ≡ size + fresh
     full =
         omega (
           arith,
           places.full,
-          ap (sum_by (λ (s : Segment). s.pages)) (map-append shown_row rows (row ∷ [])),
-          sum_by_push (λ (s : Segment). s.pages) (map shown_row rows) (shown_row row),
+          rows_size rows,
+          rows_size (rows ++ row ∷ []),
+          sum_by_push (λ (r : Row). length r.places) rows row,
           length-append (drop keep spare) (range_with_len size fresh),
           length-range_with_len size fresh,
           length-append (take keep spare) (drop keep spare),
@@ -226,7 +227,7 @@ key_grown : (rows : List Row) (row : Row) (run : Run) (place : ℕ) → HasKey r
 key_grown rows row run place (at, stands, sized, fits, is) =
     let same : row_at (rows ++ row ∷ []) at ≡ row_at rows at = old_row rows row at stands.within in (
       at,
-      record { within = omega (arith, stands.within, length-append rows (row ∷ [])); numbered = ap (λ (r : Row). r.id) same ∙ stands.numbered },
+      stands_at (rows ++ row ∷ []) run.segment at 0 (subst (λ (r : Row). 0 < length r.places) (sym same) (omega (arith, stands.live))) (ap (λ (r : Row). r.id) same ∙ stands.numbered),
       sized,
       subst (λ (r : Row). run.first + run.pages ≤ length r.places) (sym same) fits,
       ap (λ (r : Row). get_or r.places run.first 0) same ∙ is,
@@ -269,30 +270,28 @@ begins_lies id page run passes = eqb-true run.segment id (and_parts (eqb run.seg
 stops_lies : (id page : ℕ) (run : Run) → stops_at id page run ≡ true → run.segment ≡ id
 stops_lies id page run passes = eqb-true run.segment id (and_parts (eqb run.segment id) (eqb (run.first + run.pages) (page + 1)) passes).0
 
-CountsTell-grown : (rows : List Row) (row : Row) (counts : List ℕ) (used : List Run) → length counts ≡ length rows → CountsTell rows counts used → NoneIn row.id used
-    → CountsTell (rows ++ row ∷ []) (counts ++ 0 ∷ []) used
-CountsTell-grown rows row counts used sizes tell none = λ at within.
-    elim (cases_lt at (length rows)) [
-      | inl low ↦
-          get_or-append counts (0 ∷ []) 0 at (omega (arith, low, sizes))
-          ∙ (tell at low ∙ ap (λ (r : Row). pages_of (filter (lies_in r.id) used)) (sym (old_row rows row at low)))
-      | inr past ↦
-          let here : at ≡ length rows = omega (arith, past, within, length-append rows (row ∷ [])) in
-          let there : row_at (rows ++ row ∷ []) at ≡ row = ap (row_at (rows ++ row ∷ [])) here ∙ new_row rows row in
-          ap (λ i. get_or (counts ++ 0 ∷ []) i 0) (here ∙ sym sizes)
-          ∙ (get_or-append_seam counts 0 [] 0
-          ∙ (sym (all_false (lies_in row.id) used (λ k d inside. ne_eqb (get_or used k d).segment row.id (none k d inside)))
-          ∙ ap (λ (r : Row). pages_of (filter (lies_in r.id) used)) (sym there)))
+pub CountsTell-grown : (rows : List Row) (row : Row) (used : List Run) → row.used ≡ 0 → CountsTell rows used → NoneIn row.id used → CountsTell (rows ++ row ∷ []) used
+CountsTell-grown rows row used unused tell none = λ at live.
+    elim (page_cases rows row at 0 (omega (arith, live))) [
+      | inl old ↦ subst tells (sym old.1) (tell at (subst (λ (r : Row). 1 ≤ length r.places) old.1 live))
+      | inr new ↦ subst tells (sym new.1) (unused ∙ sym (all_false (lies_in row.id) used (λ k d inside. ne_eqb (get_or used k d).segment row.id (none k d inside))))
     ]
+  where
+    tells : Row → Type 0
+    tells r = r.used ≡ pages_of (filter (lies_in r.id) used)
 
-pub HoldsRuns-grown : (rows : List Row) (spare : List ℕ) (size id keep fresh : ℕ) (placed placed' : Placed) (free_from free_to used_from free_from' free_to' used_from' counts : List ℕ)
-    → ArePlaces rows spare size → HoldsRuns rows placed free_from free_to used_from counts
+pub AreDropped-grown : (rows : List Row) (row : Row) (dropped : ℕ) → 1 ≤ length row.places → AreDropped rows dropped → AreDropped (rows ++ row ∷ []) dropped
+AreDropped-grown rows row dropped live counted =
+    omega (arith, counted, sum_by_push (λ r. cond {A = ℕ} (has_pages r) 1 0) rows row, ap {B = ℕ} (λ b. cond b 1 0) (wide_passes row live), length-append rows (row ∷ []))
+
+pub HoldsRuns-grown : (rows : List Row) (spare : List ℕ) (size id keep fresh : ℕ) (placed placed' : Placed) (free_from free_to used_from free_from' free_to' used_from' : List ℕ)
+    → ArePlaces rows spare size → HoldsRuns rows placed free_from free_to used_from
     → placed'.free ≡ placed.free → placed'.used ≡ placed.used → ((place : ℕ) → run_at placed'.runs place ≡ run_at placed.runs place)
     → Widens free_from free_from' → Widens free_to free_to' → Widens used_from used_from'
     → length placed'.runs ≤ length free_from' → length placed'.runs ≤ length free_to' → length placed'.runs ≤ length used_from'
     → NoneIn id (free_of placed) → NoneIn id (used_of placed) → free_of placed' ≡ free_of placed → used_of placed' ≡ used_of placed
-    → HoldsRuns (rows ++ row_of_places id (row_places spare keep size fresh) ∷ []) placed' free_from' free_to' used_from' (counts ++ 0 ∷ [])
-HoldsRuns-grown rows spare size id keep fresh placed placed' free_from free_to used_from free_from' free_to' used_from' counts places holds free used runs from to uses reach_from reach_to reach_used none_free none_used same_free same_used =
+    → HoldsRuns (rows ++ row_of_places id (row_places spare keep size fresh) ∷ []) placed' free_from' free_to' used_from'
+HoldsRuns-grown rows spare size id keep fresh placed placed' free_from free_to used_from free_from' free_to' used_from' places holds free used runs from to uses reach_from reach_to reach_used none_free none_used same_free same_used =
     let row : Row = row_of_places id (row_places spare keep size fresh) in
     record {
       free_from_size = reach_from;
@@ -301,7 +300,6 @@ HoldsRuns-grown rows spare size id keep fresh placed placed' free_from free_to u
       free_to_clear = IsClear-grown rows row free_to free_to' to.read holds.free_to_clear;
       used_from_size = reach_used;
       used_from_clear = IsClear-grown rows row used_from used_from' uses.read holds.used_from_clear;
-      counts_size = omega (arith, length-append counts (0 ∷ []), length-append rows (row ∷ []), holds.counts_size);
       once = λ p. omega (arith, holds.once p, ap (count_by (λ other. eqb other p)) free, ap (count_by (λ other. eqb other p)) used);
       free_keys = subst (All (λ p. HasKey (rows ++ row ∷ []) (run_at placed'.runs p) p)) (sym free)
           (λ k d within. subst (λ r. HasKey (rows ++ row ∷ []) r (get_or placed.free k d)) (sym (runs (get_or placed.free k d))) (key_grown rows row _ _ (holds.free_keys k d within)));
@@ -313,7 +311,6 @@ HoldsRuns-grown rows spare size id keep fresh placed placed' free_from free_to u
           (MarksTell-grown rows spare size id keep fresh free_to free_to' stops_at (free_of placed) places to.read holds.free_to_clear holds.stops (stops_lies id) none_free);
       uses = subst (MarksTell (rows ++ row ∷ []) used_from' begins_at) (sym same_used)
           (MarksTell-grown rows spare size id keep fresh used_from used_from' begins_at (used_of placed) places uses.read holds.used_from_clear holds.uses (begins_lies id) none_used);
-      counts_used = subst (CountsTell (rows ++ row ∷ []) (counts ++ 0 ∷ [])) (sym same_used) (CountsTell-grown rows row counts (used_of placed) holds.counts_size holds.counts_used none_used);
     }
 
 -- runs that read as before
@@ -331,10 +328,10 @@ IsClear-widened : (rows : List Row) (marks marks' : List ℕ) → ((place : ℕ)
 IsClear-widened rows marks marks' read clear = λ place away. read place ∙ clear place away
 
 -- more room for marks alone changes nothing
-pub HoldsRuns-widened : (rows : List Row) (placed placed' : Placed) (free_from free_to used_from free_from' free_to' used_from' counts : List ℕ) → HoldsRuns rows placed free_from free_to used_from counts
+pub HoldsRuns-widened : (rows : List Row) (placed placed' : Placed) (free_from free_to used_from free_from' free_to' used_from' : List ℕ) → HoldsRuns rows placed free_from free_to used_from
     → placed'.free ≡ placed.free → placed'.used ≡ placed.used → ((place : ℕ) → run_at placed'.runs place ≡ run_at placed.runs place) → length placed'.runs ≡ length placed.runs
-    → Widens free_from free_from' → Widens free_to free_to' → Widens used_from used_from' → HoldsRuns rows placed' free_from' free_to' used_from' counts
-HoldsRuns-widened rows placed placed' free_from free_to used_from free_from' free_to' used_from' counts holds free used runs sizes from to uses =
+    → Widens free_from free_from' → Widens free_to free_to' → Widens used_from used_from' → HoldsRuns rows placed' free_from' free_to' used_from'
+HoldsRuns-widened rows placed placed' free_from free_to used_from free_from' free_to' used_from' holds free used runs sizes from to uses =
     let same_free : free_of placed' ≡ free_of placed = same_runs placed.free placed'.free placed.runs placed'.runs free runs in
     let same_used : used_of placed' ≡ used_of placed = same_runs placed.used placed'.used placed.runs placed'.runs used runs in
     record {
@@ -344,7 +341,6 @@ HoldsRuns-widened rows placed placed' free_from free_to used_from free_from' fre
       free_to_clear = IsClear-widened rows free_to free_to' to.read holds.free_to_clear;
       used_from_size = omega (arith, holds.used_from_size, uses.reach, sizes);
       used_from_clear = IsClear-widened rows used_from used_from' uses.read holds.used_from_clear;
-      counts_size = holds.counts_size;
       once = λ p. omega (arith, holds.once p, ap (count_by (λ other. eqb other p)) free, ap (count_by (λ other. eqb other p)) used);
       free_keys = subst (All (λ p. HasKey rows (run_at placed'.runs p) p)) (sym free)
           (λ k d within. subst (λ r. HasKey rows r (get_or placed.free k d)) (sym (runs (get_or placed.free k d))) (holds.free_keys k d within));
@@ -353,13 +349,15 @@ HoldsRuns-widened rows placed placed' free_from free_to used_from free_from' fre
       begins = subst (MarksTell rows free_from' begins_at) (sym same_free) (MarksTell-widened rows free_from free_from' begins_at (free_of placed) from.read holds.begins);
       stops = subst (MarksTell rows free_to' stops_at) (sym same_free) (MarksTell-widened rows free_to free_to' stops_at (free_of placed) to.read holds.stops);
       uses = subst (MarksTell rows used_from' begins_at) (sym same_used) (MarksTell-widened rows used_from used_from' begins_at (used_of placed) uses.read holds.uses);
-      counts_used = subst (CountsTell rows counts) (sym same_used) holds.counts_used;
     }
 
 -- what is seen of the new row
-pub shown_grown : (rows : List Row) (row : Row) (id pages : ℕ) → row.id ≡ id → length row.places ≡ pages → map shown_row (rows ++ row ∷ []) ≡ map shown_row rows ++ segment_of id pages ∷ []
-shown_grown rows row id pages same_id same_pages =
-    map-append shown_row rows (row ∷ []) ∙ ap (λ s. map shown_row rows ++ s ∷ []) (ap (λ i. segment_of i (length row.places)) same_id ∙ ap (segment_of id) same_pages)
+pub shown_grown : (rows : List Row) (row : Row) (id pages : ℕ) → 1 ≤ pages → row.id ≡ id → length row.places ≡ pages → shown_rows (rows ++ row ∷ []) ≡ shown_rows rows ++ segment_of id pages ∷ []
+shown_grown rows row id pages sized same_id same_pages =
+    ap (map shown_row) (filter-append has_pages rows (row ∷ []))
+    ∙ (map-append shown_row (filter has_pages rows) (filter has_pages (row ∷ []))
+    ∙ (ap (λ (b : Bool). shown_rows rows ++ map shown_row (cond b (row ∷ []) [])) (wide_passes row (omega (arith, sized, same_pages)))
+    ∙ ap (λ s. shown_rows rows ++ s ∷ []) (ap (λ i. segment_of i (length row.places)) same_id ∙ ap (segment_of id) same_pages)))
 
 pub row_places_length : (spare : List ℕ) (keep size fresh : ℕ) → length (row_places spare keep size fresh) ≡ length spare - keep + fresh
 row_places_length spare keep size fresh =

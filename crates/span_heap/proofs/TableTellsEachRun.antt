@@ -1,6 +1,6 @@
 -- Each page tells which run begins or ends there, through each change.
-use Rattle.std.proofs.Common.{◌≡◌, ◌≢◌, ℕ, zero, suc, ◌+◌, ◌-◌, ◌^◌, ◌<◌, ◌≤◌, Bool, true, false, not, cond, eqb, List, [], ◌∷◌, ◌++◌, length, map, get_or, set, Option, Some, None, refl, sym, ◌∙◌, ap, subst, arith, inl, inr, get_or-set_other, get_or-set_same, length-set}
-use Rattle.std.specs.List.{count_by, filter, position, list_any, All, Contains}
+use Rattle.std.proofs.Common.{◌≡◌, ◌≢◌, ℕ, zero, suc, ◌+◌, ◌-◌, ◌^◌, ◌<◌, ◌≤◌, Bool, true, false, not, ◌&&◌, ◌||◌, cond, eqb, List, [], ◌∷◌, ◌++◌, length, map, get_or, set, Option, Some, None, refl, sym, ◌∙◌, ap, subst, arith, inl, inr, get_or-set_other, get_or-set_same, length-set}
+use Rattle.std.specs.List.{count_by, filter, position, list_any, All, Contains, sum_by}
 use Rattle.std.specs.List.Sorted.{IsPermutation}
 use Rattle.std.specs.Option.{is_some}
 use Rattle.std.proofs.Math.ListN.{get_or-map}
@@ -9,15 +9,15 @@ use Rattle.std.proofs.lemmas.List.Folds.{list_any-from_Any}
 use Rattle.std.proofs.lemmas.List.Quantifiers.{position-Some}
 use Rattle.std.proofs.lemmas.List.Sums.{sum_by-cons, length-filter, sum_by_push, get_or-le-sum_by}
 use Rattle.std.proofs.lemmas.List.Sorted.{IsPermutation-map, IsPermutation-filter_both, IsPermutation-append_comm}
-use Rattle.std.proofs.lemmas.List.Elements.{All-filter, All-append, All-cons, All-nil, All-map, Contains-get_or}
-use Rattle.std.proofs.lemmas.Bool.{and_parts, and_from, eqb-true, eq-eqb, cases_eq, cases_lt, cases_Bool, both_ways, ne_eqb, and_right}
+use Rattle.std.proofs.lemmas.List.Elements.{All-filter, All-append, All-cons, All-nil, All-map, Contains-get_or, filter_passes}
+use Rattle.std.proofs.lemmas.Bool.{and_parts, and_from, ltb-true, lt-ltb, ltb-false, eqb-true, eq-eqb, cases_eq, cases_lt, cases_Bool, both_ways, ne_eqb, and_right}
 use Rattle.free_lists.specs.Lists.{without}
 use Rattle.span_heap.specs.declared.run.Run.{Run}
 use Rattle.span_heap.specs.Run.{lies_in, begins_at, ends_at, is_run, pages_of}
 use Rattle.span_heap.specs.Segment.{Segment}
-use Rattle.span_heap.specs.Heap.{LiesWithin, has_segment}
+use Rattle.span_heap.specs.Heap.{LiesWithin, has_segment, size_of}
 use Rattle.span_heap.specs.Placed.{Placed, run_at, free_of, used_of}
-use Rattle.span_heap.specs.Table.{Row, shown_row, is_row, row_at, width_at, place_at, RowStands, IsRowOf, AreApart, ArePlaces, HasKey, stops_at, MarksTell, CountsTell, IsClear, HoldsRuns}
+use Rattle.span_heap.specs.Table.{Row, no_row, has_pages, shown_row, shown_rows, is_row, row_at, width_at, place_at, RowStands, IsRowOf, AreApart, ArePlaces, HasKey, stops_at, MarksTell, CountsTell, IsClear, HoldsRuns}
 use Rattle.span_heap.proofs.Sums.{sum_by-filter, filter_at_most_one, counted, count_by-le-count_by}
 use Rattle.span_heap.proofs.PartitionByCounts.{sum_by-with}
 use Rattle.span_heap.proofs.SegmentsComeAndLeave.{sum_by-filter-le}
@@ -27,10 +27,39 @@ use Rattle.span_heap.proofs.PlacedRunsKeepTheirPlaces.{runs_removed, runs_stored
 
 -- rows
 
+-- a row that passes the test has a page, and the other way round
+pub passes_wide : (row : Row) → has_pages row ≡ true → 1 ≤ length row.places
+passes_wide row passes = omega (arith, ltb-true 0 (length row.places) passes)
+
+pub wide_passes : (row : Row) → 1 ≤ length row.places → has_pages row ≡ true
+wide_passes row wide = lt-ltb 0 (length row.places) (omega (arith, wide))
+
+pub no_pages : (row : Row) → has_pages row ≡ false → length row.places ≡ 0
+no_pages row fails = omega (arith, ltb-false 0 (length row.places) fails)
+
+-- all pages that are seen
+pub rows_size : (rows : List Row) → size_of (shown_rows rows) ≡ sum_by (λ (r : Row). length r.places) rows
+rows_size [] = refl
+rows_size (row ∷ rows) = go (has_pages row) refl (rows_size rows)
+  where
+    go : (b : Bool) → has_pages row ≡ b → size_of (shown_rows rows) ≡ sum_by (λ (r : Row). length r.places) rows
+        → size_of (map shown_row (cond b (row ∷ filter has_pages rows) (filter has_pages rows))) ≡ sum_by (λ (r : Row). length r.places) (row ∷ rows)
+    go true is rest = omega (arith, rest, sum_by-cons (λ (x : Segment). x.pages) (shown_row row) (shown_rows rows), sum_by-cons (λ (r : Row). length r.places) row rows)
+    go false is rest = omega (arith, rest, no_pages row is, sum_by-cons (λ (r : Row). length r.places) row rows)
+
+pub row_passes : (rows : List Row) (id at : ℕ) → at < length rows → is_row id (row_at rows at) ≡ true → RowStands rows id at
+row_passes rows id at within passes =
+    let parts = and_parts (eqb (row_at rows at).id id) (has_pages (row_at rows at)) passes in
+    record { within = within; numbered = eqb-true (row_at rows at).id id parts.0; live = passes_wide (row_at rows at) parts.1 }
+
+pub is_row_there : (rows : List Row) (id at : ℕ) → RowStands rows id at → is_row id (row_at rows at) ≡ true
+is_row_there rows id at stands =
+    and_from (eqb (row_at rows at).id id) (has_pages (row_at rows at)) (eq-eqb (row_at rows at).id id stands.numbered) (wide_passes (row_at rows at) stands.live)
+
 pub row_stands : (rows : List Row) (id at : ℕ) → position (is_row id) rows ≡ Some at → RowStands rows id at
 row_stands rows id at found =
-    let there = position-Some (is_row id) rows at (record { id = 0; places = [] }) found in
-    record { within = there.0; numbered = eqb-true (row_at rows at).id id there.1 }
+    let there = position-Some (is_row id) rows at no_row found in
+    row_passes rows id at there.0 there.1
 
 pub row_found : (rows : List Row) (id : ℕ) (found : Option ℕ) → found ≡ position (is_row id) rows → IsRowOf rows id found
 row_found rows id None is =
@@ -41,25 +70,31 @@ row_found rows id None is =
 row_found rows id (Some at) is = row_stands rows id at (sym is)
 
 pub row_is : (rows : List Row) (at : ℕ) (row : Row) → at < length rows → row ≡ get_or rows at row → row ≡ row_at rows at
-row_is rows at row within is = is ∙ get_or_default rows at row (record { id = 0; places = [] }) within
+row_is rows at row within is = is ∙ get_or_default rows at row no_row within
 
 pub wide_within : (rows : List Row) (at page : ℕ) → page < width_at rows at → at < length rows
 wide_within rows at page wide =
     elim (cases_lt at (length rows)) [
       | inl low ↦ low
-      | inr past ↦ absurd (omega (arith, wide, ap {B = ℕ} (λ (row : Row). length row.places) (get_or_past rows at (record { id = 0; places = [] }) past)))
+      | inr past ↦ absurd (omega (arith, wide, ap {B = ℕ} (λ (row : Row). length row.places) (get_or_past rows at no_row past)))
     ]
 
+-- the row of a page
+pub stands_at : (rows : List Row) (id at page : ℕ) → page < width_at rows at → (row_at rows at).id ≡ id → RowStands rows id at
+stands_at rows id at page wide is = record { within = wide_within rows at page wide; numbered = is; live = omega (arith, wide) }
+
+-- the same row, by an equal number
+pub renumbered : (rows : List Row) (id id' at : ℕ) → RowStands rows id at → id ≡ id' → RowStands rows id' at
+renumbered rows id id' at stands same = record { within = stands.within; numbered = stands.numbered ∙ same; live = stands.live }
+
 -- one row has this number
-pub one_row : (rows : List Row) (id at at' : ℕ) → ((i : ℕ) → count_by (is_row i) rows ≤ 1) → RowStands rows id at → at' < length rows → (row_at rows at').id ≡ id → at' ≡ at
-one_row rows id at at' distinct stands within same =
-    one_place (is_row id) rows at' at (record { id = 0; places = [] }) (distinct id) within stands.within
-    (eq-eqb (row_at rows at').id id same) (eq-eqb (row_at rows at).id id stands.numbered)
+pub one_row : (rows : List Row) (id at at' : ℕ) → ((i : ℕ) → count_by (is_row i) rows ≤ 1) → RowStands rows id at → RowStands rows id at' → at' ≡ at
+one_row rows id at at' distinct stands stands' =
+    one_place (is_row id) rows at' at no_row (distinct id) stands'.within stands.within (is_row_there rows id at' stands') (is_row_there rows id at stands)
 
 row_any : (rows : List Row) (id at : ℕ) → RowStands rows id at → list_any (is_row id) rows ≡ true
 row_any rows id at stands =
-    let empty : Row = record { id = 0; places = [] } in
-    list_any-from_Any (is_row id) rows (at, row_at rows at, stands.within, get_or_default rows at (row_at rows at) empty stands.within, eq-eqb (row_at rows at).id id stands.numbered)
+    list_any-from_Any (is_row id) rows (at, row_at rows at, stands.within, get_or_default rows at (row_at rows at) no_row stands.within, is_row_there rows id at stands)
 
 pub row_any_found : (rows : List Row) (id : ℕ) (found : Option ℕ) (answer : Bool) → IsRowOf rows id found → answer ≡ is_some found → answer ≡ list_any (is_row id) rows
 row_any_found rows id None answer absent is = is ∙ sym absent
@@ -70,13 +105,13 @@ row_any_found rows id (Some at) answer stands is = is ∙ sym (row_any rows id a
 pub key_place : (rows : List Row) (run : Run) (place at : ℕ) → ((i : ℕ) → count_by (is_row i) rows ≤ 1) → HasKey rows run place → RowStands rows run.segment at
     → (1 ≤ run.pages) × (run.first + run.pages ≤ width_at rows at) × (place_at rows at run.first ≡ place)
 key_place rows run place at distinct (at', stands', sized, fits, is) stands =
-    let same : at' ≡ at = one_row rows run.segment at at' distinct stands stands'.within stands'.numbered in
+    let same : at' ≡ at = one_row rows run.segment at at' distinct stands stands' in
     (sized, subst (λ i. run.first + run.pages ≤ width_at rows i) same fits, subst (λ i. place_at rows i run.first ≡ place) same is)
 
 pub same_key : (rows : List Row) (run other : Run) (place place' : ℕ) → ((i : ℕ) → count_by (is_row i) rows ≤ 1) → HasKey rows run place → HasKey rows other place'
     → run.segment ≡ other.segment → run.first ≡ other.first → place ≡ place'
 same_key rows run other place place' distinct key (at', stands', sized', fits', is') segment first =
-    let mine = key_place rows run place at' distinct key (record { within = stands'.within; numbered = stands'.numbered ∙ sym segment }) in
+    let mine = key_place rows run place at' distinct key (renumbered rows other.segment run.segment at' stands' (sym segment)) in
     sym mine.2 ∙ (ap (place_at rows at') first ∙ is')
 
 -- what a run in the list is kept under
@@ -112,25 +147,48 @@ row_of_run rows runs places run keys there =
     let (place, stands_there, is, key) = looked_up rows runs places run keys there in
     row_any rows run.segment key.0 key.1
 
+-- what passes a test stands in the list
+pub filtered_there : {X : Type 0} (test : X → Bool) (xs : List X) (x : X) → Contains (filter test xs) x → Contains xs x
+filtered_there test [] x there = there
+filtered_there test (y ∷ xs) x there = go (test y) (filtered_there test xs x) there
+  where
+    behind : Contains xs x → Contains (y ∷ xs) x
+    behind (k, within, is) = (suc k, omega (arith, within), is)
+
+    go : (b : Bool) → (Contains (filter test xs) x → Contains xs x) → Contains (cond b (y ∷ filter test xs) (filter test xs)) x → Contains (y ∷ xs) x
+    go true rest (zero, within, is) = (zero, omega arith, is)
+    go true rest (suc k, within, is) = behind (rest (k, omega (arith, within), is))
+    go false rest there = behind (rest there)
+
+-- the row of a segment that is seen
+pub row_of_shown : (rows : List Row) (segment : Segment) → Contains (shown_rows rows) segment → (at : ℕ) × RowStands rows segment.id at × (width_at rows at ≡ segment.pages)
+row_of_shown rows segment (k, within, is) =
+    let kept = filter has_pages rows in
+    let inside : k < length kept = omega (arith, within, length-map kept shown_row) in
+    let same : shown_row (row_at kept k) ≡ segment = sym (get_or-map shown_row kept k no_row) ∙ (get_or_default (map shown_row kept) k (shown_row no_row) segment within ∙ is) in
+    let (at, low, there) = filtered_there has_pages rows (row_at kept k) (Contains-get_or kept k no_row inside) in
+    let here : row_at rows at ≡ row_at kept k = get_or_default rows at no_row (row_at kept k) low ∙ there in
+    let live : 1 ≤ width_at rows at = subst (λ (r : Row). 1 ≤ length r.places) (sym here) (passes_wide (row_at kept k) (filter_passes has_pages rows k no_row inside)) in (
+      at,
+      record { within = low; numbered = ap (λ (r : Row). r.id) here ∙ ap (λ (x : Segment). x.id) same; live = live },
+      ap {B = ℕ} (λ (r : Row). length r.places) here ∙ ap (λ (x : Segment). x.pages) same,
+    )
+
 -- a run that lies within a segment lies in its row
-lies_row : (rows : List Row) (run : Run) → LiesWithin (map shown_row rows) run
+lies_row : (rows : List Row) (run : Run) → LiesWithin (shown_rows rows) run
     → (at : ℕ) × RowStands rows run.segment at × (1 ≤ run.pages) × (run.first + run.pages ≤ width_at rows at)
 lies_row rows run (sized, (k, segment, within, is, both)) =
-    let empty : Row = record { id = 0; places = [] } in
-    let inside : k < length rows = omega (arith, within, length-map rows shown_row) in
-    let same : shown_row (row_at rows k) ≡ segment = sym (get_or-map shown_row rows k empty) ∙ (get_or_default (map shown_row rows) k (shown_row empty) segment within ∙ is) in
-    let id : (row_at rows k).id ≡ segment.id = ap (λ (s : Segment). s.id) same in
-    let pages : width_at rows k ≡ segment.pages = ap (λ (s : Segment). s.pages) same in
-    (k, record { within = inside; numbered = id ∙ both.0 }, sized, omega (arith, pages, both.1))
+    let (at, stands, wide) = row_of_shown rows segment (k, within, is) in
+    (at, renumbered rows segment.id run.segment at stands both.0, sized, omega (arith, wide, both.1))
 
-pub row_of_lies : (rows : List Row) (run : Run) → LiesWithin (map shown_row rows) run → list_any (is_row run.segment) rows ≡ true
+pub row_of_lies : (rows : List Row) (run : Run) → LiesWithin (shown_rows rows) run → list_any (is_row run.segment) rows ≡ true
 row_of_lies rows run lies = let (at, stands, sized, fits) = lies_row rows run lies in row_any rows run.segment at stands
 
-pub lies_at : (rows : List Row) (run : Run) (at : ℕ) → ((i : ℕ) → count_by (is_row i) rows ≤ 1) → LiesWithin (map shown_row rows) run → RowStands rows run.segment at
+pub lies_at : (rows : List Row) (run : Run) (at : ℕ) → ((i : ℕ) → count_by (is_row i) rows ≤ 1) → LiesWithin (shown_rows rows) run → RowStands rows run.segment at
     → (1 ≤ run.pages) × (run.first + run.pages ≤ width_at rows at)
 lies_at rows run at distinct lies stands =
     let (at', stands', sized, fits) = lies_row rows run lies in
-    let same : at' ≡ at = one_row rows run.segment at at' distinct stands stands'.within stands'.numbered in
+    let same : at' ≡ at = one_row rows run.segment at at' distinct stands stands' in
     (sized, subst (λ i. run.first + run.pages ≤ width_at rows i) same fits)
 
 -- where no run begins, no run is kept
@@ -221,7 +279,7 @@ begins_only rows run at distinct stands = (
   λ other page' wide' passes.
       let parts = and_parts (eqb run.segment (row_at rows other).id) (eqb run.first page') passes in
       let segment : run.segment ≡ (row_at rows other).id = eqb-true run.segment (row_at rows other).id parts.0 in
-      (one_row rows run.segment at other distinct stands (wide_within rows other page' wide') (sym segment), sym (eqb-true run.first page' parts.1)),
+      (one_row rows run.segment at other distinct stands (stands_at rows run.segment other page' wide' (sym segment)), sym (eqb-true run.first page' parts.1)),
 )
 
 pub stops_only : (rows : List Row) (run : Run) (at : ℕ) → ((i : ℕ) → count_by (is_row i) rows ≤ 1) → RowStands rows run.segment at → 1 ≤ run.pages
@@ -232,56 +290,69 @@ stops_only rows run at distinct stands sized = (
       let parts = and_parts (eqb run.segment (row_at rows other).id) (eqb (run.first + run.pages) (page' + 1)) passes in
       let segment : run.segment ≡ (row_at rows other).id = eqb-true run.segment (row_at rows other).id parts.0 in
       let stop : run.first + run.pages ≡ page' + 1 = eqb-true (run.first + run.pages) (page' + 1) parts.1 in
-      (one_row rows run.segment at other distinct stands (wide_within rows other page' wide') (sym segment), omega (arith, stop, sized)),
+      (one_row rows run.segment at other distinct stands (stands_at rows run.segment other page' wide' (sym segment)), omega (arith, stop, sized)),
 )
 
 -- counts
 
-pub CountsTell-set : (rows : List Row) (counts : List ℕ) (used used' : List Run) (run : Run) (at n : ℕ) → ((i : ℕ) → count_by (is_row i) rows ≤ 1) → CountsTell rows counts used
-    → RowStands rows run.segment at → at < length counts → n ≡ pages_of (filter (lies_in (row_at rows at).id) used')
+-- the rows, with the count of one set anew
+abbrev pub recounted : List Row → ℕ → ℕ → List Row
+recounted rows at n = set rows at (record { id = (row_at rows at).id; places = (row_at rows at).places; used = n })
+
+CountsTell-set : (rows : List Row) (used used' : List Run) (run : Run) (at n : ℕ) → ((i : ℕ) → count_by (is_row i) rows ≤ 1) → CountsTell rows used
+    → RowStands rows run.segment at → n ≡ pages_of (filter (lies_in (row_at rows at).id) used')
     → ((id : ℕ) → lies_in id run ≡ false → pages_of (filter (lies_in id) used') ≡ pages_of (filter (lies_in id) used))
-    → CountsTell rows (set counts at n) used'
-CountsTell-set rows counts used used' run at n distinct tell stands low here stays = λ at' within.
+    → CountsTell (recounted rows at n) used'
+CountsTell-set rows used used' run at n distinct tell stands here stays = λ at' live.
     elim (cases_eq at' at) [
       | inl same ↦
-          ap (λ i. get_or (set counts at n) i 0) same ∙ (get_or-set_same counts at n 0 low ∙ (here ∙ ap (λ i. pages_of (filter (lies_in (row_at rows i).id) used')) (sym same)))
+          let now : row_at (recounted rows at n) at' ≡ row = ap (row_at (recounted rows at n)) same ∙ get_or-set_same rows at row no_row stands.within in
+          ap (λ (r : Row). r.used) now ∙ (here ∙ ap (λ (r : Row). pages_of (filter (lies_in r.id) used')) (sym now))
       | inr other ↦
-          get_or-set_other counts at at' n 0 other ∙ (tell at' within ∙ sym (stays (row_at rows at').id (elsewhere at' within other)))
+          let now : row_at (recounted rows at n) at' ≡ row_at rows at' = get_or-set_other rows at at' row no_row other in
+          let live_old : 1 ≤ width_at rows at' = subst (λ (r : Row). 1 ≤ length r.places) now live in
+          ap (λ (r : Row). r.used) now
+          ∙ (tell at' live_old
+          ∙ (sym (stays (row_at rows at').id (elsewhere at' live_old other)) ∙ ap (λ (r : Row). pages_of (filter (lies_in r.id) used')) (sym now)))
     ]
   where
-    elsewhere : (at' : ℕ) → at' < length rows → at' ≢ at → lies_in (row_at rows at').id run ≡ false
-    elsewhere at' within other =
+    row : Row
+    row = record { id = (row_at rows at).id; places = (row_at rows at).places; used = n }
+
+    elsewhere : (at' : ℕ) → 1 ≤ width_at rows at' → at' ≢ at → lies_in (row_at rows at').id run ≡ false
+    elsewhere at' live other =
         elim (cases_Bool (lies_in (row_at rows at').id run)) [
-          | inl lies ↦ absurd (other (one_row rows run.segment at at' distinct stands within (sym (eqb-true run.segment (row_at rows at').id lies))))
+          | inl lies ↦
+              absurd (other (one_row rows run.segment at at' distinct stands (stands_at rows run.segment at' 0 (omega (arith, live)) (sym (eqb-true run.segment (row_at rows at').id lies)))))
           | inr fails ↦ fails
         ]
 
 lies_here : (rows : List Row) (run : Run) (at : ℕ) → RowStands rows run.segment at → lies_in (row_at rows at).id run ≡ true
 lies_here rows run at stands = eq-eqb run.segment (row_at rows at).id (sym stands.numbered)
 
-pub CountsTell-taken : (rows : List Row) (counts : List ℕ) (used used' : List Run) (run : Run) (at n : ℕ) → ((i : ℕ) → count_by (is_row i) rows ≤ 1) → CountsTell rows counts used
-    → RowStands rows run.segment at → at < length counts → IsPermutation used (run ∷ used') → n ≡ get_or counts at 0 - run.pages → CountsTell rows (set counts at n) used'
-CountsTell-taken rows counts used used' run at n distinct tell stands low taken is =
-    CountsTell-set rows counts used used' run at n distinct tell stands low
-    (omega (arith, is, tell at stands.within, part_of (lies_in (row_at rows at).id) used used' run taken, ap (λ b. cond {A = ℕ} b run.pages 0) (lies_here rows run at stands)))
+pub CountsTell-taken : (rows : List Row) (used used' : List Run) (run : Run) (at n : ℕ) → ((i : ℕ) → count_by (is_row i) rows ≤ 1) → CountsTell rows used
+    → RowStands rows run.segment at → IsPermutation used (run ∷ used') → n ≡ (row_at rows at).used - run.pages → CountsTell (recounted rows at n) used'
+CountsTell-taken rows used used' run at n distinct tell stands taken is =
+    CountsTell-set rows used used' run at n distinct tell stands
+    (omega (arith, is, tell at stands.live, part_of (lies_in (row_at rows at).id) used used' run taken, ap (λ b. cond {A = ℕ} b run.pages 0) (lies_here rows run at stands)))
     (λ id fails. omega (arith, part_of (lies_in id) used used' run taken, ap (λ b. cond {A = ℕ} b run.pages 0) fails))
 
-pub CountsTell-added : (rows : List Row) (counts : List ℕ) (used : List Run) (run : Run) (at n : ℕ) → ((i : ℕ) → count_by (is_row i) rows ≤ 1) → CountsTell rows counts used
-    → RowStands rows run.segment at → at < length counts → n ≡ get_or counts at 0 + run.pages → CountsTell rows (set counts at n) (used ++ run ∷ [])
-CountsTell-added rows counts used run at n distinct tell stands low is =
+pub CountsTell-added : (rows : List Row) (used : List Run) (run : Run) (at n : ℕ) → ((i : ℕ) → count_by (is_row i) rows ≤ 1) → CountsTell rows used
+    → RowStands rows run.segment at → n ≡ (row_at rows at).used + run.pages → CountsTell (recounted rows at n) (used ++ run ∷ [])
+CountsTell-added rows used run at n distinct tell stands is =
     let given : IsPermutation (used ++ run ∷ []) (run ∷ used) = IsPermutation-append_comm used (run ∷ []) in
-    CountsTell-set rows counts used (used ++ run ∷ []) run at n distinct tell stands low
-    (omega (arith, is, tell at stands.within, part_of (lies_in (row_at rows at).id) (used ++ run ∷ []) used run given, ap (λ b. cond {A = ℕ} b run.pages 0) (lies_here rows run at stands)))
+    CountsTell-set rows used (used ++ run ∷ []) run at n distinct tell stands
+    (omega (arith, is, tell at stands.live, part_of (lies_in (row_at rows at).id) (used ++ run ∷ []) used run given, ap (λ b. cond {A = ℕ} b run.pages 0) (lies_here rows run at stands)))
     (λ id fails. omega (arith, part_of (lies_in id) (used ++ run ∷ []) used run given, ap (λ b. cond {A = ℕ} b run.pages 0) fails))
 
-pub count_reaches : (rows : List Row) (counts : List ℕ) (used used' : List Run) (run : Run) (at : ℕ) → CountsTell rows counts used → RowStands rows run.segment at
-    → IsPermutation used (run ∷ used') → run.pages ≤ get_or counts at 0
-count_reaches rows counts used used' run at tell stands taken =
-    omega (arith, tell at stands.within, part_of (lies_in (row_at rows at).id) used used' run taken, ap (λ b. cond {A = ℕ} b run.pages 0) (lies_here rows run at stands))
+pub count_reaches : (rows : List Row) (used used' : List Run) (run : Run) (at : ℕ) → CountsTell rows used → RowStands rows run.segment at
+    → IsPermutation used (run ∷ used') → run.pages ≤ (row_at rows at).used
+count_reaches rows used used' run at tell stands taken =
+    omega (arith, tell at stands.live, part_of (lies_in (row_at rows at).id) used used' run taken, ap (λ b. cond {A = ℕ} b run.pages 0) (lies_here rows run at stands))
 
-pub count-le-pages : (rows : List Row) (counts : List ℕ) (used : List Run) (at : ℕ) → CountsTell rows counts used → at < length rows → get_or counts at 0 ≤ pages_of used
-count-le-pages rows counts used at tell within =
-    omega (arith, tell at within, sum_by-filter-le (λ (x : Run). x.pages) (lies_in (row_at rows at).id) used)
+pub count-le-pages : (rows : List Row) (used : List Run) (at : ℕ) → CountsTell rows used → 1 ≤ width_at rows at → (row_at rows at).used ≤ pages_of used
+count-le-pages rows used at tell live =
+    omega (arith, tell at live, sum_by-filter-le (λ (x : Run). x.pages) (lies_in (row_at rows at).id) used)
 
 -- a place leaves a list
 pub perm_without : (xs : List ℕ) (place : ℕ) → Contains xs place → count_by (λ other. eqb other place) xs ≤ 1 → IsPermutation xs (place ∷ without xs place)
@@ -344,15 +415,15 @@ IsClear-set rows marks at page n wide clear = λ place away.
 
 -- what holds of the runs, through each change
 
-pub HoldsRuns-free_taken : (rows : List Row) (spare : List ℕ) (size : ℕ) (placed placed' : Placed) (free_from free_to used_from counts : List ℕ) (run : Run) (at n m : ℕ) → ArePlaces rows spare size
-    → size ≡ length placed.runs → HoldsRuns rows placed free_from free_to used_from counts → RowStands rows run.segment at → IsFound rows placed.runs placed.free run at
+pub HoldsRuns-free_taken : (rows : List Row) (spare : List ℕ) (size : ℕ) (placed placed' : Placed) (free_from free_to used_from : List ℕ) (run : Run) (at n m : ℕ) → ArePlaces rows spare size
+    → size ≡ length placed.runs → HoldsRuns rows placed free_from free_to used_from → RowStands rows run.segment at → IsFound rows placed.runs placed.free run at
     → placed'.free ≡ without placed.free (place_at rows at run.first) → placed'.used ≡ placed.used → placed'.runs ≡ placed.runs
     → n ≡ get_or free_from (place_at rows at run.first) 0 - run.pages → m ≡ get_or free_to (place_at rows at (run.first + (run.pages - 1))) 0 - run.pages
-    → HoldsRuns rows placed' (set free_from (place_at rows at run.first) n) (set free_to (place_at rows at (run.first + (run.pages - 1))) m) used_from counts
-HoldsRuns-free_taken rows spare size placed placed' free_from free_to used_from counts run at n m places sizes holds stands found free used runs is_n is_m =
+    → HoldsRuns rows placed' (set free_from (place_at rows at run.first) n) (set free_to (place_at rows at (run.first + (run.pages - 1))) m) used_from
+HoldsRuns-free_taken rows spare size placed placed' free_from free_to used_from run at n m places sizes holds stands found free used runs is_n is_m =
     let first = place_at rows at run.first in
     let last = place_at rows at (run.first + (run.pages - 1)) in
-    let Q : List ℕ → List ℕ → List Run → Type 0 = λ f u r. HoldsRuns rows (record { free = f; used = u; runs = r }) (set free_from first n) (set free_to last m) used_from counts in
+    let Q : List ℕ → List ℕ → List Run → Type 0 = λ f u r. HoldsRuns rows (record { free = f; used = u; runs = r }) (set free_from first n) (set free_to last m) used_from in
     let few : count_by (λ other. eqb other first) placed.free ≤ 1 = omega (arith, holds.once first) in
     let taken = taken_out rows placed.runs placed.free run at found few in
     let wide : run.first < width_at rows at = omega (arith, found.sized, found.fits) in
@@ -365,7 +436,6 @@ HoldsRuns-free_taken rows spare size placed placed' free_from free_to used_from 
       free_to_clear = IsClear-set rows free_to at (run.first + (run.pages - 1)) m wide_last holds.free_to_clear;
       used_from_size = holds.used_from_size;
       used_from_clear = holds.used_from_clear;
-      counts_size = holds.counts_size;
       once = λ p. omega (arith, fewer (λ other. not (eqb other first)) placed.free p, holds.once p);
       free_keys = All-filter (λ other. not (eqb other first)) (λ p. HasKey rows (run_at placed.runs p) p) placed.free holds.free_keys;
       used_keys = holds.used_keys;
@@ -374,17 +444,16 @@ HoldsRuns-free_taken rows spare size placed placed' free_from free_to used_from 
       stops = MarksTell-taken rows free_to stops_at (free_of placed) _ run at (run.first + (run.pages - 1)) m places.apart holds.stops wide_last
           (omega (arith, places.within at (run.first + (run.pages - 1)) wide_last, holds.free_to_size, sizes)) (stops_only rows run at places.distinct stands found.sized) taken is_m;
       uses = holds.uses;
-      counts_used = holds.counts_used;
     })))
 
-pub HoldsRuns-used_taken : (rows : List Row) (spare : List ℕ) (size : ℕ) (placed placed' : Placed) (free_from free_to used_from counts : List ℕ) (run : Run) (at n m : ℕ) → ArePlaces rows spare size
-    → size ≡ length placed.runs → HoldsRuns rows placed free_from free_to used_from counts → RowStands rows run.segment at → IsFound rows placed.runs placed.used run at
+pub HoldsRuns-used_taken : (rows : List Row) (spare : List ℕ) (size : ℕ) (placed placed' : Placed) (free_from free_to used_from : List ℕ) (run : Run) (at n : ℕ) → ArePlaces rows spare size
+    → size ≡ length placed.runs → HoldsRuns rows placed free_from free_to used_from → RowStands rows run.segment at → IsFound rows placed.runs placed.used run at
     → placed'.free ≡ placed.free → placed'.used ≡ without placed.used (place_at rows at run.first) → placed'.runs ≡ placed.runs
-    → n ≡ get_or used_from (place_at rows at run.first) 0 - run.pages → m ≡ get_or counts at 0 - run.pages
-    → HoldsRuns rows placed' free_from free_to (set used_from (place_at rows at run.first) n) (set counts at m)
-HoldsRuns-used_taken rows spare size placed placed' free_from free_to used_from counts run at n m places sizes holds stands found free used runs is_n is_m =
+    → n ≡ get_or used_from (place_at rows at run.first) 0 - run.pages
+    → HoldsRuns rows placed' free_from free_to (set used_from (place_at rows at run.first) n)
+HoldsRuns-used_taken rows spare size placed placed' free_from free_to used_from run at n places sizes holds stands found free used runs is_n =
     let first = place_at rows at run.first in
-    let Q : List ℕ → List ℕ → List Run → Type 0 = λ f u r. HoldsRuns rows (record { free = f; used = u; runs = r }) free_from free_to (set used_from first n) (set counts at m) in
+    let Q : List ℕ → List ℕ → List Run → Type 0 = λ f u r. HoldsRuns rows (record { free = f; used = u; runs = r }) free_from free_to (set used_from first n) in
     let few : count_by (λ other. eqb other first) placed.used ≤ 1 = omega (arith, holds.once first) in
     let taken = taken_out rows placed.runs placed.used run at found few in
     let wide : run.first < width_at rows at = omega (arith, found.sized, found.fits) in
@@ -396,7 +465,6 @@ HoldsRuns-used_taken rows spare size placed placed' free_from free_to used_from 
       free_to_clear = holds.free_to_clear;
       used_from_size = omega (arith, length-set used_from first n, holds.used_from_size);
       used_from_clear = IsClear-set rows used_from at run.first n wide holds.used_from_clear;
-      counts_size = length-set counts at m ∙ holds.counts_size;
       once = λ p. omega (arith, fewer (λ other. not (eqb other first)) placed.used p, holds.once p);
       free_keys = holds.free_keys;
       used_keys = All-filter (λ other. not (eqb other first)) (λ p. HasKey rows (run_at placed.runs p) p) placed.used holds.used_keys;
@@ -404,19 +472,18 @@ HoldsRuns-used_taken rows spare size placed placed' free_from free_to used_from 
       stops = holds.stops;
       uses = MarksTell-taken rows used_from begins_at (used_of placed) _ run at run.first n places.apart holds.uses wide
           (omega (arith, places.within at run.first wide, holds.used_from_size, sizes)) (begins_only rows run at places.distinct stands) taken is_n;
-      counts_used = CountsTell-taken rows counts (used_of placed) _ run at m places.distinct holds.counts_used stands (omega (arith, stands.within, holds.counts_size)) taken is_m;
     })))
 
-pub HoldsRuns-free_added : (rows : List Row) (spare : List ℕ) (size : ℕ) (placed placed' : Placed) (free_from free_to used_from counts : List ℕ) (run : Run) (at n m : ℕ) → ArePlaces rows spare size
-    → size ≡ length placed.runs → HoldsRuns rows placed free_from free_to used_from counts → RowStands rows run.segment at → 1 ≤ run.pages → run.first + run.pages ≤ width_at rows at
+pub HoldsRuns-free_added : (rows : List Row) (spare : List ℕ) (size : ℕ) (placed placed' : Placed) (free_from free_to used_from : List ℕ) (run : Run) (at n m : ℕ) → ArePlaces rows spare size
+    → size ≡ length placed.runs → HoldsRuns rows placed free_from free_to used_from → RowStands rows run.segment at → 1 ≤ run.pages → run.first + run.pages ≤ width_at rows at
     → (Contains placed.free (place_at rows at run.first) → ⊥) → (Contains placed.used (place_at rows at run.first) → ⊥)
     → placed'.free ≡ placed.free ++ place_at rows at run.first ∷ [] → placed'.used ≡ placed.used → placed'.runs ≡ set placed.runs (place_at rows at run.first) run
     → n ≡ get_or free_from (place_at rows at run.first) 0 + run.pages → m ≡ get_or free_to (place_at rows at (run.first + (run.pages - 1))) 0 + run.pages
-    → HoldsRuns rows placed' (set free_from (place_at rows at run.first) n) (set free_to (place_at rows at (run.first + (run.pages - 1))) m) used_from counts
-HoldsRuns-free_added rows spare size placed placed' free_from free_to used_from counts run at n m places sizes holds stands sized fits not_free not_used free used runs is_n is_m =
+    → HoldsRuns rows placed' (set free_from (place_at rows at run.first) n) (set free_to (place_at rows at (run.first + (run.pages - 1))) m) used_from
+HoldsRuns-free_added rows spare size placed placed' free_from free_to used_from run at n m places sizes holds stands sized fits not_free not_used free used runs is_n is_m =
     let first = place_at rows at run.first in
     let last = place_at rows at (run.first + (run.pages - 1)) in
-    let Q : List ℕ → List ℕ → List Run → Type 0 = λ f u r. HoldsRuns rows (record { free = f; used = u; runs = r }) (set free_from first n) (set free_to last m) used_from counts in
+    let Q : List ℕ → List ℕ → List Run → Type 0 = λ f u r. HoldsRuns rows (record { free = f; used = u; runs = r }) (set free_from first n) (set free_to last m) used_from in
     let wide : run.first < width_at rows at = omega (arith, sized, fits) in
     let wide_last : run.first + (run.pages - 1) < width_at rows at = omega (arith, sized, fits) in
     let low : first < length placed.runs = omega (arith, places.within at run.first wide, sizes) in
@@ -431,7 +498,6 @@ HoldsRuns-free_added rows spare size placed placed' free_from free_to used_from 
       free_to_clear = IsClear-set rows free_to at (run.first + (run.pages - 1)) m wide_last holds.free_to_clear;
       used_from_size = omega (arith, length-set placed.runs first run, holds.used_from_size);
       used_from_clear = holds.used_from_clear;
-      counts_size = holds.counts_size;
       once = λ p. omega (arith, once_more placed.free placed.used first holds.once not_free not_used p, sum_by_push (λ other. cond {A = ℕ} (eqb other p) 1 0) placed.free first);
       free_keys = key_added rows placed.runs placed.free first run low not_free (at, stands, sized, fits, refl) holds.free_keys;
       used_keys = keys_same rows placed.runs placed.used first run not_used holds.used_keys;
@@ -442,18 +508,17 @@ HoldsRuns-free_added rows spare size placed placed' free_from free_to used_from 
           (MarksTell-added rows free_to stops_at (free_of placed) run at (run.first + (run.pages - 1)) m places.apart holds.stops wide_last
           (omega (arith, places.within at (run.first + (run.pages - 1)) wide_last, holds.free_to_size, sizes)) (stops_only rows run at places.distinct stands sized) is_m);
       uses = subst (MarksTell rows used_from begins_at) (sym used_now) holds.uses;
-      counts_used = subst (CountsTell rows counts) (sym used_now) holds.counts_used;
     })))
 
-pub HoldsRuns-used_added : (rows : List Row) (spare : List ℕ) (size : ℕ) (placed placed' : Placed) (free_from free_to used_from counts : List ℕ) (run : Run) (at n m : ℕ) → ArePlaces rows spare size
-    → size ≡ length placed.runs → HoldsRuns rows placed free_from free_to used_from counts → RowStands rows run.segment at → 1 ≤ run.pages → run.first + run.pages ≤ width_at rows at
+pub HoldsRuns-used_added : (rows : List Row) (spare : List ℕ) (size : ℕ) (placed placed' : Placed) (free_from free_to used_from : List ℕ) (run : Run) (at n : ℕ) → ArePlaces rows spare size
+    → size ≡ length placed.runs → HoldsRuns rows placed free_from free_to used_from → RowStands rows run.segment at → 1 ≤ run.pages → run.first + run.pages ≤ width_at rows at
     → (Contains placed.free (place_at rows at run.first) → ⊥) → (Contains placed.used (place_at rows at run.first) → ⊥)
     → placed'.free ≡ placed.free → placed'.used ≡ placed.used ++ place_at rows at run.first ∷ [] → placed'.runs ≡ set placed.runs (place_at rows at run.first) run
-    → n ≡ get_or used_from (place_at rows at run.first) 0 + run.pages → m ≡ get_or counts at 0 + run.pages
-    → HoldsRuns rows placed' free_from free_to (set used_from (place_at rows at run.first) n) (set counts at m)
-HoldsRuns-used_added rows spare size placed placed' free_from free_to used_from counts run at n m places sizes holds stands sized fits not_free not_used free used runs is_n is_m =
+    → n ≡ get_or used_from (place_at rows at run.first) 0 + run.pages
+    → HoldsRuns rows placed' free_from free_to (set used_from (place_at rows at run.first) n)
+HoldsRuns-used_added rows spare size placed placed' free_from free_to used_from run at n places sizes holds stands sized fits not_free not_used free used runs is_n =
     let first = place_at rows at run.first in
-    let Q : List ℕ → List ℕ → List Run → Type 0 = λ f u r. HoldsRuns rows (record { free = f; used = u; runs = r }) free_from free_to (set used_from first n) (set counts at m) in
+    let Q : List ℕ → List ℕ → List Run → Type 0 = λ f u r. HoldsRuns rows (record { free = f; used = u; runs = r }) free_from free_to (set used_from first n) in
     let wide : run.first < width_at rows at = omega (arith, sized, fits) in
     let low : first < length placed.runs = omega (arith, places.within at run.first wide, sizes) in
     let now : List Run = set placed.runs first run in
@@ -467,7 +532,6 @@ HoldsRuns-used_added rows spare size placed placed' free_from free_to used_from 
       free_to_clear = holds.free_to_clear;
       used_from_size = omega (arith, length-set used_from first n, length-set placed.runs first run, holds.used_from_size);
       used_from_clear = IsClear-set rows used_from at run.first n wide holds.used_from_clear;
-      counts_size = length-set counts at m ∙ holds.counts_size;
       once = λ p. omega (arith, once_more placed.free placed.used first holds.once not_free not_used p, sum_by_push (λ other. cond {A = ℕ} (eqb other p) 1 0) placed.used first);
       free_keys = keys_same rows placed.runs placed.free first run not_free holds.free_keys;
       used_keys = key_added rows placed.runs placed.used first run low not_used (at, stands, sized, fits, refl) holds.used_keys;
@@ -476,8 +540,6 @@ HoldsRuns-used_added rows spare size placed placed' free_from free_to used_from 
       uses = subst (MarksTell rows (set used_from first n) begins_at) (sym used_now)
           (MarksTell-added rows used_from begins_at (used_of placed) run at run.first n places.apart holds.uses wide
           (omega (arith, places.within at run.first wide, holds.used_from_size, sizes)) (begins_only rows run at places.distinct stands) is_n);
-      counts_used = subst (CountsTell rows (set counts at m)) (sym used_now)
-          (CountsTell-added rows counts (used_of placed) run at m places.distinct holds.counts_used stands (omega (arith, stands.within, holds.counts_size)) is_m);
     })))
 
 -- what a mark at a place was
@@ -487,16 +549,7 @@ mark_is marks place mark low is = is ∙ get_or_default marks place mark 0 low
 -- the pages of a row have places, so they are fewer than 2^32
 pub row_small : (rows : List Row) (spare : List ℕ) (size at : ℕ) → ArePlaces rows spare size → at < length rows → width_at rows at < 2 ^ 32
 row_small rows spare size at places within =
-    let empty : Row = record { id = 0; places = [] } in
-    let inside : at < length (map shown_row rows) = omega (arith, within, length-map rows shown_row) in
-    let here : get_or (map shown_row rows) at (shown_row empty) ≡ shown_row (row_at rows at) = get_or-map shown_row rows at empty in
-    omega (
-      arith,
-      places.small,
-      places.full,
-      get_or-le-sum_by (λ (s : Segment). s.pages) (map shown_row rows) at (shown_row empty) inside,
-      ap {B = ℕ} (λ (s : Segment). s.pages) here,
-    )
+    omega (arith, places.small, places.full, rows_size rows, get_or-le-sum_by (λ (r : Row). length r.places) rows at no_row within)
 
 pub all_false : (test : Run → Bool) (runs : List Run) → All (λ run. test run ≡ false) runs → pages_of (filter test runs) ≡ 0
 all_false test runs none = ap {B = ℕ} pages_of (filter_none test runs none)
@@ -523,15 +576,22 @@ none_begins_past rows runs places id at page distinct stands keys past =
           | inl passes ↦
               let parts = and_parts (eqb run.segment id) (eqb run.first page) passes in
               let segment : run.segment ≡ id = eqb-true run.segment id parts.0 in
-              let mine = key_place rows run place at distinct key (record { within = stands.within; numbered = stands.numbered ∙ sym segment }) in
+              let mine = key_place rows run place at distinct key (renumbered rows id run.segment at stands (sym segment)) in
               absurd (omega (arith, past, mine.0, mine.1, eqb-true run.first page parts.1))
           | inr fails ↦ fails
         ]
 
 -- what is seen of rows
-pub any_row : (id : ℕ) (rows : List Row) → has_segment (map shown_row rows) id ≡ list_any (is_row id) rows
+pub any_row : (id : ℕ) (rows : List Row) → has_segment (shown_rows rows) id ≡ list_any (is_row id) rows
 any_row id [] = refl
-any_row id (row ∷ rows) = rw (any_row id rows) refl
+any_row id (row ∷ rows) = go (eqb row.id id) (has_pages row) refl (any_row id rows)
+  where
+    go : (a b : Bool) → eqb row.id id ≡ a → has_segment (shown_rows rows) id ≡ list_any (is_row id) rows
+        → has_segment (map shown_row (cond b (row ∷ filter has_pages rows) (filter has_pages rows))) id ≡ (a && b || list_any (is_row id) rows)
+    go true true is rest = rw is refl
+    go false true is rest = rw is rest
+    go true false is rest = rest
+    go false false is rest = rest
 
 pub all_sized : (rows : List Row) (runs : List Run) (places : List ℕ) → All (λ p. HasKey rows (run_at runs p) p) places → All (λ run. 1 ≤ run.pages) (map (run_at runs) places)
 all_sized rows runs places keys = All-map (λ (run : Run). 1 ≤ run.pages) (run_at runs) places (λ k d within. (keys k d within).2)
@@ -543,18 +603,6 @@ count_by-map test f [] = refl
 count_by-map test f (x ∷ xs) =
     sum_by-cons (λ y. cond {A = ℕ} (test y) 1 0) (f x) (map f xs)
     ∙ (ap {B = ℕ} (λ n. cond (test (f x)) 1 0 + n) (count_by-map test f xs) ∙ sym (sum_by-cons (λ y. cond {A = ℕ} (test (f y)) 1 0) x xs))
-
-filtered_there : {X : Type 0} (test : X → Bool) (xs : List X) (x : X) → Contains (filter test xs) x → Contains xs x
-filtered_there test [] x there = there
-filtered_there test (y ∷ xs) x there = go (test y) (filtered_there test xs x) there
-  where
-    behind : Contains xs x → Contains (y ∷ xs) x
-    behind (k, within, is) = (suc k, omega (arith, within), is)
-
-    go : (b : Bool) → (Contains (filter test xs) x → Contains xs x) → Contains (cond b (y ∷ filter test xs) (filter test xs)) x → Contains (y ∷ xs) x
-    go true rest (zero, within, is) = (zero, omega arith, is)
-    go true rest (suc k, within, is) = behind (rest (k, omega (arith, within), is))
-    go false rest there = behind (rest there)
 
 -- at most one run begins at a page
 pub one_begins : (rows : List Row) (runs : List Run) (places : List ℕ) (id at page : ℕ) → ((i : ℕ) → count_by (is_row i) rows ≤ 1) → RowStands rows id at
@@ -568,7 +616,7 @@ one_begins rows runs places id at page distinct stands keys few =
           let run : Run = run_at runs p in
           let parts = and_parts (eqb run.segment id) (eqb run.first page) begins in
           let segment : run.segment ≡ id = eqb-true run.segment id parts.0 in
-          let mine = key_place rows run p at distinct key (record { within = stands.within; numbered = stands.numbered ∙ sym segment }) in
+          let mine = key_place rows run p at distinct key (renumbered rows id run.segment at stands (sym segment)) in
           eq-eqb p (place_at rows at page) (sym mine.2 ∙ ap (place_at rows at) (eqb-true run.first page parts.1))),
     )
 

@@ -1,5 +1,5 @@
 -- The table of a heap's pages: each page has a place, and the place tells which run begins or ends there.
-use Rattle.std.specs.Prelude.{◌≡◌, ◌≢◌, ℕ, ◌+◌, ◌^◌, ◌<◌, ◌≤◌, Bool, not, IsTrue, IsFalse, ◌==◌, List, [], ◌∷◌, ◌++◌, drop, length, slice_index_or, map, All, Contains, Option, MatchOption, filter, count_by}
+use Rattle.std.specs.Prelude.{◌≡◌, ◌≢◌, ℕ, ◌+◌, ◌^◌, ◌<◌, ◌≤◌, Bool, not, ◌&&◌, IsTrue, IsFalse, ◌==◌, nat_lt, List, [], ◌∷◌, ◌++◌, drop, length, slice_index_or, map, All, Contains, Option, MatchOption, filter, count_by}
 use Rattle.std.specs.List.{list_any, range_with_len}
 use Rattle.span_heap.specs.declared.run.Run.{Run}
 use Rattle.span_heap.specs.Run.{lies_in, begins_at, ends_at, pages_of}
@@ -7,22 +7,39 @@ use Rattle.span_heap.specs.Segment.{Segment}
 use Rattle.span_heap.specs.Heap.{Contents, LiesWithin, size_of}
 use Rattle.span_heap.specs.Placed.{Placed, run_at, free_of, used_of, IsDistinct}
 
--- a segment in the table: its number, and the place of each of its pages
+-- a segment in the table: its number, the place of each of its pages, and how many of them are used; one without a page is a segment that was dropped
 pub record Row : Type 0 where
   pub id : ℕ
   pub places : List ℕ
+  pub used : ℕ
+
+-- what stands past the last row
+abbrev pub no_row : Row
+no_row = record { id = 0; places = []; used = 0 }
+
+-- the row has a page
+abbrev pub has_pages : Row → Bool
+has_pages row = nat_lt 0 (length row.places)
 
 -- what is seen of a row
 abbrev pub shown_row : Row → Segment
 shown_row row = record { id = row.id; pages = length row.places }
 
--- the row has this number
+-- what is seen of the rows: those with a page, in their order
+abbrev pub shown_rows : List Row → List Segment
+shown_rows rows = map shown_row (filter has_pages rows)
+
+-- so many rows have no page
+abbrev pub AreDropped : List Row → ℕ → Type 0
+AreDropped rows dropped = dropped + count_by has_pages rows ≡ length rows
+
+-- the row has this number and a page
 abbrev pub is_row : ℕ → Row → Bool
-is_row id row = row.id == id
+is_row id row = (row.id == id) && has_pages row
 
 -- the row at an index
 abbrev pub row_at : List Row → ℕ → Row
-row_at rows at = slice_index_or rows at (record { id = 0; places = [] })
+row_at rows at = slice_index_or rows at no_row
 
 -- the number of pages of the row at an index
 abbrev pub width_at : List Row → ℕ → ℕ
@@ -32,10 +49,11 @@ width_at rows at = length (row_at rows at).places
 abbrev pub place_at : List Row → ℕ → ℕ → ℕ
 place_at rows at page = slice_index_or (row_at rows at).places page 0
 
--- the row of this number stands at this index
+-- the row of this number stands at this index, and has a page
 pub record RowStands (rows : List Row) (id at : ℕ) : Type 0 where
   pub within : at < length rows
   pub numbered : (row_at rows at).id ≡ id
+  pub live : 1 ≤ width_at rows at
 
 -- the place of the row of this number, or none where no row has it
 abbrev pub IsRowOf : List Row → ℕ → Option ℕ → Type 0
@@ -55,7 +73,7 @@ pub record ArePlaces (rows : List Row) (spare : List ℕ) (size : ℕ) : Type 0 
   pub spare_apart : (at page : ℕ) → page < width_at rows at → Contains spare (place_at rows at page) → ⊥
   pub spare_once : IsDistinct spare
   pub small : size < 2 ^ 32
-  pub full : size_of (map shown_row rows) + length spare ≡ size
+  pub full : size_of (shown_rows rows) + length spare ≡ size
 
 -- the run lies in the row of its segment, has a page, and is kept under the place of its first page
 abbrev pub HasKey : List Row → Run → ℕ → Type 0
@@ -71,9 +89,9 @@ abbrev pub MarksTell : List Row → List ℕ → (ℕ → ℕ → Run → Bool) 
 MarksTell rows marks test runs =
     (at page : ℕ) → page < width_at rows at → slice_index_or marks (place_at rows at page) 0 ≡ pages_of (filter (test (row_at rows at).id page) runs)
 
--- each row's count is how many pages of its segment are used
-abbrev pub CountsTell : List Row → List ℕ → List Run → Type 0
-CountsTell rows counts used = (at : ℕ) → at < length rows → slice_index_or counts at 0 ≡ pages_of (filter (lies_in (row_at rows at).id) used)
+-- the count of each row with a page is how many pages of its segment are used
+abbrev pub CountsTell : List Row → List Run → Type 0
+CountsTell rows used = (at : ℕ) → 1 ≤ width_at rows at → (row_at rows at).used ≡ pages_of (filter (lies_in (row_at rows at).id) used)
 
 -- the mark of a place that no page has is 0
 abbrev pub IsClear : List Row → List ℕ → Type 0
@@ -85,23 +103,21 @@ pub record Widens (old new : List ℕ) : Type 0 where
   pub reach : length old ≤ length new
   pub read : (place : ℕ) → slice_index_or new place 0 ≡ slice_index_or old place 0
 
--- Each run is kept under the place of its first page, no place has two, and the marks and counts tell of the runs. A place
--- that no page has is unmarked.
-pub record HoldsRuns (rows : List Row) (placed : Placed) (free_from free_to used_from counts : List ℕ) : Type 0 where
+-- Each run is kept under the place of its first page, no place has two, and the marks tell of the runs. A place that no
+-- page has is unmarked.
+pub record HoldsRuns (rows : List Row) (placed : Placed) (free_from free_to used_from : List ℕ) : Type 0 where
   pub free_from_size : length placed.runs ≤ length free_from
   pub free_from_clear : IsClear rows free_from
   pub free_to_size : length placed.runs ≤ length free_to
   pub free_to_clear : IsClear rows free_to
   pub used_from_size : length placed.runs ≤ length used_from
   pub used_from_clear : IsClear rows used_from
-  pub counts_size : length counts ≡ length rows
   pub once : (place : ℕ) → count_by (λ other. other == place) placed.free + count_by (λ other. other == place) placed.used ≤ 1
   pub free_keys : All (λ place. HasKey rows (run_at placed.runs place) place) placed.free
   pub used_keys : All (λ place. HasKey rows (run_at placed.runs place) place) placed.used
   pub begins : MarksTell rows free_from begins_at (free_of placed)
   pub stops : MarksTell rows free_to stops_at (free_of placed)
   pub uses : MarksTell rows used_from begins_at (used_of placed)
-  pub counts_used : CountsTell rows counts (used_of placed)
 
 -- the places of a new segment: the spare ones from `keep` on, and new ones from `size` on
 abbrev pub row_places : List ℕ → ℕ → ℕ → ℕ → List ℕ

@@ -19,10 +19,11 @@ use units::NoMemory;
 /// Only `new`, `grow` and `runs` take memory. No call but `runs` goes along all runs or spans: each
 /// is found by the pages where it begins and ends, and each free run by its length. A `search` looks
 /// at the latest run of each length below 256 and goes along the longer ones. `drop_segment` goes
-/// along the pages of its segment. A span tells where the row of its segment stood, and the row is looked
-/// for from there on. A `search` guesses the row by the first and the last number. From such a place it is
-/// found in steps that double and then by halves where the numbers of the segments rise in the order in
-/// which they came, and else by a walk.
+/// along the pages of its segment and moves nothing of the others: its row stands on without a page,
+/// and `grow` takes such rows out in one pass once they are more than half of all. A span tells where
+/// the row of its segment stood, and the row is looked for from there on. A `search` guesses the row by
+/// the first and the last number. From such a place it is found in steps that double and then by halves
+/// where the numbers of the segments rise in the order in which they came, and else by a walk.
 #[derive(Debug, Drop)]
 pub struct Heap {
     table: PageTable,

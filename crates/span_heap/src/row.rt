@@ -1,16 +1,18 @@
 //! A segment in the table of pages.
-ghost use Rattle.std.specs.Prelude.{◌≡◌, ◌+◌, ◌++◌, ◌^◌, ◌<◌, ◌≤◌, vec_len, vec_capacity, length, position, slice_index_or, IsTrue, IfOk, OnOk};
+ghost use Rattle.std.specs.Prelude.{◌≡◌, ◌+◌, ◌-◌, ◌*◌, [], ◌∷◌, ◌++◌, ◌^◌, ◌<◌, ◌≤◌, vec_len, vec_capacity, length, position, filter, slice_index_or, IsTrue, IfOk, OnOk};
 ghost use Rattle.std.specs.List.{list_any};
-ghost use Rattle.span_heap.specs.Table.{is_row, RowStands, IsRowOf, Widens, row_places};
+ghost use Rattle.span_heap.specs.Table.{has_pages, is_row, AreDropped, RowStands, IsRowOf, Widens, row_places};
 
 use std::alloc::{AllocError, Global};
 use std::marker::Model;
 
-/// A segment, with the place of each of its pages.
+/// A segment, with the place of each of its pages. One without a page is a segment that was dropped.
 #[derive(Debug, Drop)]
 pub(crate) struct PageRow {
     id: u64,
     places: Vec<u32>,
+    /// How many of its pages are used.
+    used: u32,
 }
 
 impl Model for PageRow {
@@ -18,15 +20,19 @@ impl Model for PageRow {
 
     ghost Value = { Row };
 
-    ghost view = { λ r. record { id = r.id; places = r.places.items } };
+    ghost view = { λ r. record { id = r.id; places = r.places.items; used = r.used } };
 }
 
 impl PageRow {
-    /// A segment whose pages have these places.
+    /// A segment whose pages have these places. None of them is used.
     pub(crate) fn new(id: u64, places: Vec<u32>) -> PageRow
-        ensures { result ≡ record { id = id; places = places.items } }
+        ensures { result ≡ record { id = id; places = places.items; used = 0 } }
     {
-        PageRow { id, places }
+        PageRow {
+            id,
+            places,
+            used: 0,
+        }
     }
 
     /// The number of the segment.
@@ -34,6 +40,20 @@ impl PageRow {
         ensures { result ≡ self.now.id }
     {
         self.id
+    }
+
+    /// Whether it has a page.
+    pub(crate) fn has_pages(&self) -> bool
+        ensures { result ≡ has_pages self.now }
+    {
+        !self.places.is_empty()
+    }
+
+    /// Whether it has this number and was not dropped.
+    pub(crate) fn is_of(&self, id: u64) -> bool
+        ensures { result ≡ is_row id self.now }
+    {
+        self.id == id && self.has_pages()
     }
 
     /// How many pages it has.
@@ -51,29 +71,55 @@ impl PageRow {
         self.places[page as usize]
     }
 
-    /// Gives the places of its pages to those that no page has.
-    pub(crate) fn give_places(self, spare: &mut Vec<u32>)
-        requires { vec_len spare.old + length self.places ≤ vec_capacity spare.old }
-        ensures items { spare.new.items ≡ spare.old.items ++ self.places }
+    /// How many of its pages are used.
+    pub(crate) fn used(&self) -> u32
+        ensures { result ≡ self.now.used }
+    {
+        self.used
+    }
+
+    /// Counts so many more of its pages as used.
+    pub(crate) fn more_used(&mut self, pages: u32)
+        requires { self.old.used + pages < 2 ^ 32 }
+        ensures { self.new ≡ record self.old { used = self.old.used + pages } }
+    {
+        self.used += pages;
+    }
+
+    /// Counts so many fewer of its pages as used.
+    pub(crate) fn less_used(&mut self, pages: u32)
+        requires { pages ≤ self.old.used }
+        ensures { self.new ≡ record self.old { used = self.old.used - pages } }
+    {
+        self.used -= pages;
+    }
+
+    /// Gives the places of its pages to those that no page has, and has none from then on.
+    pub(crate) fn give_places(&mut self, spare: &mut Vec<u32>)
+        requires { vec_len spare.old + length self.old.places ≤ vec_capacity spare.old }
+        ensures items { spare.new.items ≡ spare.old.items ++ self.old.places }
         ensures capacity { vec_capacity spare.new ≡ vec_capacity spare.old }
+        ensures left { self.new ≡ record self.old { places = [] } }
     {
         for place in self.places.as_slice() {
             spare.push_reserved(*place);
         }
+        self.places.clear();
+        self.places.shrink_to_fit();
     }
 }
 
-/// Where the row of this number stands, if one is there. It is found at once where it stands at
-/// `near`, from there in steps that double and then by halves where the numbers rise, and else by a
-/// walk.
+/// Where the row of this number stands, if one is there that was not dropped. It is found at once
+/// where it stands at `near`, from there in steps that double and then by halves where the numbers
+/// rise, and else by a walk.
 pub(crate) fn find_row(rows: &[PageRow], id: u64, near: usize) -> Option<usize>
     ensures { IsRowOf rows.now id result }
 {
-    if near < rows.len() && rows[near].id() == id {
+    if near < rows.len() && rows[near].is_of(id) {
         return Some(near);
     }
     let at = row_from(rows, id, near.min(rows.len()));
-    if at < rows.len() && rows[at].id() == id {
+    if at < rows.len() && rows[at].is_of(id) {
         return Some(at);
     }
     first_row(rows, id)
@@ -96,11 +142,11 @@ pub(crate) fn guess_row(rows: &[PageRow], id: u64) -> usize {
     (offset.saturating_mul(steps) / reach) as usize
 }
 
-/// Where the first row of this number stands, by a walk.
+/// Where the first row of this number stands that was not dropped, by a walk.
 fn first_row(rows: &[PageRow], id: u64) -> Option<usize>
     ensures { result ≡ position (is_row id) rows.now }
 {
-    rows.iter().position(|row| row.id() == id)
+    rows.iter().position(|row| row.is_of(id))
 }
 
 /// Whether there is a row at this index, and its number is below this one.
@@ -165,6 +211,34 @@ pub(crate) fn row_of(rows: &[PageRow], id: u64, near: usize) -> usize
     match find_row(rows, id, near) {
         Some(at) => at,
         None => 0,
+    }
+}
+
+/// Adds a row as the last one. Then those of dropped segments are taken out, where they are more than
+/// half of all. `dropped` is how many they are.
+pub(crate) fn push_row(rows: &mut Vec<PageRow>, dropped: &mut usize, row: PageRow)
+    requires room { vec_len rows.old < vec_capacity rows.old }
+    requires live { 1 ≤ length row.places }
+    requires counted { AreDropped rows.old.items dropped.old }
+    ensures counted { AreDropped rows.new.items dropped.new }
+    ensures living { filter has_pages rows.new.items ≡ filter has_pages (rows.old.items ++ row ∷ []) }
+    ensures few { 2 * dropped.new ≤ length rows.new.items }
+{
+    rows.push_reserved(row);
+    take_out_dropped(rows, dropped);
+}
+
+/// Takes out the rows of dropped segments, where they are more than half of all. That costs one pass
+/// over the rows, and at least half of them were dropped since the last one.
+fn take_out_dropped(rows: &mut Vec<PageRow>, dropped: &mut usize)
+    requires { AreDropped rows.old.items dropped.old }
+    ensures counted { AreDropped rows.new.items dropped.new }
+    ensures living { filter has_pages rows.new.items ≡ filter has_pages rows.old.items }
+    ensures few { 2 * dropped.new ≤ length rows.new.items }
+{
+    if *dropped > rows.len() / 2 {
+        rows.retain(|row| row.has_pages());
+        *dropped = 0;
     }
 }
 

@@ -8,8 +8,8 @@ use std::marker::Model;
 #[derive(Debug, Drop)]
 pub struct Span {
     pub(crate) run: Run,
-    /// Where the row of its segment stood in the table. Rows move up when a segment is dropped, so
-    /// this is a guess.
+    /// Where the row of its segment stood in the table. Rows move up when those of dropped segments
+    /// are taken out, so this is a guess.
     pub(crate) near: usize,
 }
 

@@ -10,7 +10,7 @@ ghost use Rattle.span_heap.specs.Table.{AreSized, BeginFrom, CanCome, IsEmptied,
 ghost use Rattle.span_heap.specs.Table.{NoneBegins, OneBefore, OneBehind, page_of, without_before, without_behind};
 
 use crate::placed::PlacedRuns;
-use crate::row::{PageRow, find_row, guess_row, new_places, row_of, widen_all};
+use crate::row::{PageRow, find_row, guess_row, new_places, push_row, row_of, widen_all};
 use crate::run::Run;
 use std::alloc::Global;
 use std::marker::Model;
@@ -19,10 +19,11 @@ use units::NoMemory;
 /// Segments with their used spans and free runs, each of which is found by its first or last page.
 #[derive(Debug, Drop)]
 pub(crate) struct PageTable {
-    /// In the order in which they came.
+    /// In the order in which they came. The row of a segment that was dropped stands on without a
+    /// page, so that no other moves, until `grow` takes such rows out.
     rows: Vec<PageRow>,
-    /// How many pages of each segment are used.
-    counts: Vec<u32>,
+    /// How many rows have no page.
+    dropped: usize,
     runs: PlacedRuns,
     /// By place: how many pages the free run has that begins there.
     free_from: Vec<u32>,
@@ -35,19 +36,20 @@ pub(crate) struct PageTable {
 }
 
 impl Model for PageTable {
-    ghost use Rattle.std.specs.Prelude.{◌≤◌, length, map, vec_capacity};
+    ghost use Rattle.std.specs.Prelude.{◌≤◌, length, vec_capacity};
     ghost use Rattle.span_heap.specs.Placed.{free_of, used_of};
-    ghost use Rattle.span_heap.specs.Table.{shown_row, ArePlaces, HoldsRuns};
+    ghost use Rattle.span_heap.specs.Table.{shown_rows, AreDropped, ArePlaces, CountsTell, HoldsRuns};
     ghost use Rattle.span_heap.specs.Heap.{Contents, contents};
 
     ghost Value = { Contents };
 
-    ghost view = { λ t. contents (map shown_row t.rows.items) (used_of t.runs) (free_of t.runs) };
+    ghost view = { λ t. contents (shown_rows t.rows.items) (used_of t.runs) (free_of t.runs) };
 
     ghost invariant = { λ t. ArePlaces t.rows.items t.spare.items (length t.runs.runs)
         × HoldsRuns t.rows.items t.runs t.free_from.items t.free_to.items t.used_from.items
-        t.counts.items
-        × (length t.runs.runs ≤ vec_capacity t.spare) };
+        × CountsTell t.rows.items (used_of t.runs)
+        × (length t.runs.runs ≤ vec_capacity t.spare)
+        × AreDropped t.rows.items t.dropped };
 }
 
 impl PageTable {
@@ -57,7 +59,7 @@ impl PageTable {
     {
         Ok(PageTable {
             rows: Vec::new(alloc),
-            counts: Vec::new(alloc),
+            dropped: 0,
             runs: PlacedRuns::new(alloc)?,
             free_from: Vec::new(alloc),
             free_to: Vec::new(alloc),
@@ -69,6 +71,7 @@ impl PageTable {
     /// Adds a segment that has no run. `NoMemory` leaves the table as before.
     pub(crate) fn grow(&mut self, alloc: Global, id: u64, pages: u32) -> Result<(), NoMemory>
         requires fresh { IsFalse (has_segment self.old.segments id) }
+        requires sized { 1 ≤ pages }
         requires small { size_of self.old.segments + pages < 2 ^ 32 }
         requires none_free { NoneIn id self.old.free }
         requires none_used { NoneIn id self.old.used }
@@ -82,7 +85,6 @@ impl PageTable {
         let fresh = pages - (self.spare.len() - keep) as u32;
         let places = new_places(alloc, self.spare.as_slice(), keep, size, fresh)?;
         self.rows.reserve(1)?;
-        self.counts.reserve(1)?;
         self.spare
             .reserve((size + fresh) as usize - self.spare.len())?;
         widen_all(
@@ -93,8 +95,7 @@ impl PageTable {
         )?;
         self.runs.extend(alloc, fresh)?;
         self.spare.truncate(keep);
-        self.rows.push_reserved(PageRow::new(id, places));
-        self.counts.push_reserved(0);
+        push_row(&mut self.rows, &mut self.dropped, PageRow::new(id, places));
         Ok(())
     }
 
@@ -179,7 +180,8 @@ impl PageTable {
         Run::marked(id, page, self.used_from[place as usize])
     }
 
-    /// Removes a segment that has no run. Its places serve the next segments.
+    /// Removes a segment that has no run. Its places serve the next segments, and its row stands on
+    /// without a page.
     fn remove_row(&mut self, id: u64, near: usize)
         requires { IsEmptied self.old id }
         ensures segments { self.new.segments ≡ filter (λ s. not (has_id id s)) self.old.segments }
@@ -187,9 +189,8 @@ impl PageTable {
         ensures used { self.new.used ≡ dropped self.old.used id }
     {
         let at = row_of(self.rows.as_slice(), id, near);
-        let row = self.rows.remove(at);
-        self.counts.remove(at);
-        row.give_places(&mut self.spare);
+        self.rows[at].give_places(&mut self.spare);
+        self.dropped += 1;
     }
 
     /// Takes out a free run.
@@ -237,7 +238,7 @@ impl PageTable {
         let first = self.rows[at].place(span.first);
         self.runs.take_used(first);
         self.used_from[first as usize] -= span.pages;
-        self.counts[at] -= span.pages;
+        self.rows[at].less_used(span.pages);
     }
 
     /// Adds a used span.
@@ -254,7 +255,7 @@ impl PageTable {
         let first = self.rows[at].place(span.first);
         self.runs.add_used(first, span);
         self.used_from[first as usize] += span.pages;
-        self.counts[at] += span.pages;
+        self.rows[at].more_used(span.pages);
     }
 
     /// Adds what a run has behind its first `pages` pages, if anything, as the latest free run.
@@ -394,6 +395,6 @@ impl PageTable {
         ensures none { (result ≡ 0) ↔ NoneIn id self.now.used }
     {
         let at = row_of(self.rows.as_slice(), id, near);
-        self.counts[at]
+        self.rows[at].used()
     }
 }

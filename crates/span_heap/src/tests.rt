@@ -41,7 +41,9 @@ fn add_free(heap: &mut Heap, alloc: Global, segment: u64, pages: u32) -> Result<
 }
 
 /// Segments 7, 8, 9 and 10 of 1, 3, 3 and 300 pages, freed whole in this order.
-fn four_free_segments(alloc: Global) -> Result<Heap, Fail> {
+fn four_free_segments(alloc: Global) -> Result<Heap, Fail>
+    ensures { IfOk result (λ heap. size_of heap.segments ≤ 4 * 300) }
+{
     let mut heap = Heap::new(alloc)?;
     add_free(&mut heap, alloc, 7, 1)?;
     add_free(&mut heap, alloc, 8, 3)?;
@@ -142,5 +144,27 @@ fn lengths_from_256_on_are_one(rt: HostRuntime) -> Result<(), Fail> {
     let mut heap = segment_of_each_length(rt.alloc())?;
     assert!(rt; finds(&mut heap, 256, 1, 257));
     assert!(rt; finds(&mut heap, 255, 2, 255) && finds(&mut heap, 255, 1, 256));
+    Ok(())
+}
+
+/// Whether the heap had this segment, which is dropped then.
+fn drops(heap: &mut Heap, segment: u64) -> bool
+    ensures { size_of heap.new.segments ≤ size_of heap.old.segments }
+{
+    if !heap.has_segment(segment) {
+        return false;
+    }
+    heap.drop_segment(segment);
+    true
+}
+
+#[test]
+fn segments_stay_where_most_were_dropped(rt: HostRuntime) -> Result<(), Fail> {
+    let mut heap = four_free_segments(rt.alloc())?;
+    assert!(rt; drops(&mut heap, 7) && drops(&mut heap, 9) && drops(&mut heap, 8));
+    assert!(rt; heap.free_pages() == 300 && !heap.has_segment(9));
+    add_free(&mut heap, rt.alloc(), 8, 2)?;
+    assert!(rt; heap.has_segment(8) && heap.has_segment(10) && !heap.has_segment(7));
+    assert!(rt; finds(&mut heap, 2, 0, 8) && finds(&mut heap, 300, 0, 10));
     Ok(())
 }

@@ -1,7 +1,7 @@
-use Rattle.std.proofs.Common.{◌≡◌, ◌+◌, ◌-◌, ◌<◌, length, get_or, refl, ◌∙◌, ap, arith, length-set}
+use Rattle.std.proofs.Common.{◌≡◌, ◌+◌, ◌-◌, ◌<◌, length, get_or, refl, ◌∙◌, ap, arith, length-set, sym, subst}
 use Rattle.span_heap.specs.Run.{begins_at}
 use Rattle.span_heap.specs.Placed.{free_of}
-use Rattle.span_heap.specs.Table.{Row, width_at, place_at, stops_at}
+use Rattle.span_heap.specs.Table.{Row, width_at, place_at, stops_at, CountsTell}
 use Rattle.span_heap.proofs.TableTellsEachRun.{row_is, row_small, mark_is, row_of_lies, lies_at, new_place, mark-le-pages, run_added, runs_same, HoldsRuns-free_added}
 use Rattle.span_heap.proofs.table.PageTable.add_free.Goals as goal
 
@@ -151,11 +151,16 @@ invariant_of-self c =
     let mark_2 = mark_is t.free_to.items c.place-last.result c.index_mut-2.result.now low_last c.index_mut-2.ensures.value in (
       rw (c.add_free.ensures.runs, length-set t.runs.runs c.place-first.result c.args.run) places,
       rw (first, last)
-          (HoldsRuns-free_added rows t.spare.items (length t.runs.runs) t.runs c.add_free.new.self t.free_from.items t.free_to.items t.used_from.items t.counts.items c.args.run at _ _ places refl holds stands fits.0 fits.1
+          (HoldsRuns-free_added rows t.spare.items (length t.runs.runs) t.runs c.add_free.new.self t.free_from.items t.free_to.items t.used_from.items c.args.run at _ _ places refl holds stands fits.0 fits.1
           (λ there. new_place rows t.runs.runs t.runs.free c.args.run at places.apart holds.free_keys (rw (← c.self.view_is) at c.requires.not_free) stands wide there)
           (λ there. new_place rows t.runs.runs t.runs.used c.args.run at places.apart holds.used_keys (rw (← c.self.view_is) at c.requires.not_used) stands wide there)
           (rw first at c.add_free.ensures.free) c.add_free.ensures.used (rw first at c.add_free.ensures.runs) (ap (λ x. x + c.args.run.pages) (rw first at mark)) (ap (λ x. x + c.args.run.pages) (rw last at mark_2))),
-      rw (c.add_free.ensures.runs, length-set t.runs.runs c.place-first.result c.args.run) c.self.invariant.2,
+      rw (c.add_free.ensures.runs, c.add_free.ensures.used, first)
+          (subst (CountsTell rows)
+          (sym (runs_same t.runs.runs t.runs.used (place_at rows at c.args.run.first) c.args.run (λ there. new_place rows t.runs.runs t.runs.used c.args.run at places.apart holds.used_keys (rw (← c.self.view_is) at c.requires.not_used) stands wide there)))
+          c.self.invariant.2),
+      rw (c.add_free.ensures.runs, length-set t.runs.runs c.place-first.result c.args.run) c.self.invariant.3,
+      c.self.invariant.4,
     )
 
 pub returns-clause-free : goal.returns-clause-free

@@ -176,9 +176,11 @@ invariant_of-self c =
     let mark_2 = mark_is t.free_to.items c.place-last.result c.index_mut-2.result.now low_last c.index_mut-2.ensures.value in (
       rw c.take_free.ensures.runs places,
       rw (first, last)
-          (HoldsRuns-free_taken rows t.spare.items (length t.runs.runs) t.runs c.take_free.new.self t.free_from.items t.free_to.items t.used_from.items t.counts.items c.args.run at _ _ places refl holds stands found
+          (HoldsRuns-free_taken rows t.spare.items (length t.runs.runs) t.runs c.take_free.new.self t.free_from.items t.free_to.items t.used_from.items c.args.run at _ _ places refl holds stands found
           (rw first at c.take_free.ensures.free) c.take_free.ensures.used c.take_free.ensures.runs (ap (λ x. x - c.args.run.pages) (rw first at mark)) (ap (λ x. x - c.args.run.pages) (rw last at mark_2))),
-      rw c.take_free.ensures.runs c.self.invariant.2,
+      rw (c.take_free.ensures.runs, c.take_free.ensures.used) c.self.invariant.2,
+      rw c.take_free.ensures.runs c.self.invariant.3,
+      c.self.invariant.4,
     )
 
 pub returns-clause-free : goal.returns-clause-free
