@@ -148,18 +148,31 @@ fn search_and_free(heap: &mut Heap, turns: u64) {
 }
 
 /// The drop of a segment in the middle of a heap of 1,000 beside the same in one of 10. A turn is a page.
-pub fn drops<C: Clock>(clock: &C, alloc: Global) -> io::Result<Times> {
+/// Before each of the two, so many words of other memory are gone along: with none, the small heap lies
+/// in the caches that are next to the processor, and most of the large one does not.
+pub fn drops<C: Clock>(clock: &C, alloc: Global, words: usize) -> io::Result<Times> {
+    let mut other = vec![in alloc; 0; words]?;
     let mut times = Times::none();
     for _ in 0..RUNS {
         let (mut many, mut few) = two_heaps(alloc, Numbers::ByThree)?;
+        go_along(&mut other);
         let start = Instant::now(clock)?;
         drop_from(&mut many, MANY / 2);
         let ours = start.elapsed(clock)?;
+        go_along(&mut other);
         let start = Instant::now(clock)?;
         drop_from(&mut few, FEW / 2);
         times = times.with(DROPS * u64::from(PAGES), ours, start.elapsed(clock)?);
     }
     Ok(times)
+}
+
+/// Changes each word.
+#[inline(never)]
+fn go_along(words: &mut [u64]) {
+    for word in words.iter_mut() {
+        *word = word.wrapping_add(1);
+    }
 }
 
 /// Drops the segments from a place on.

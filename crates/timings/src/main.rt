@@ -1,9 +1,10 @@
 #![tactic(auto)]
 //! `timings`: how long single calls take, each beside a plain one in the same run. With no words it
 //! does nothing. Each word is the name of a measurement, `locks`, `tries`, `looks`, `heaps`, `spaced`,
-//! `squares`, `drops` or `returns`, whose two times it prints, in picoseconds a turn. `heaps`, `spaced` and
+//! `squares`, `drops`, `cold` or `returns`, whose two times it prints, in picoseconds a turn. `heaps`, `spaced` and
 //! `squares` search and free where the numbers of the segments rise by one, by three and as the squares.
-//! In `drops` a turn is a page, and in `returns` a note that is given and taken.
+//! In `drops` and `cold` a turn is a page, and in `returns` a note that is given and taken. `cold` is
+//! `drops` behind 8 MiB of other memory.
 
 mod heap_steps;
 mod queue_steps;
@@ -25,7 +26,8 @@ fn main(rt: HostRuntime) -> io::Result<()> {
             "heaps" => heaps(&rt, alloc, Numbers::ByOne)?,
             "spaced" => heaps(&rt, alloc, Numbers::ByThree)?,
             "squares" => heaps(&rt, alloc, Numbers::Squares)?,
-            "drops" => drops(&rt, alloc)?,
+            "drops" => drops(&rt, alloc, 0)?,
+            "cold" => drops(&rt, alloc, 1_048_576)?,
             "returns" => returns(&rt, &rt, alloc)?,
             _ => continue,
         };
