@@ -1,5 +1,6 @@
 -- The first block of some pages among others, by their pages alone.
 use Rattle.std.proofs.Common.{◌≡◌, ℕ, ◌+◌, ◌*◌, ◌<◌, ◌==◌, Bool, true, false, not, cond, ◌||◌, List, [], ◌∷◌, length, get_or, map, replicate, nat_lt, Some, None, refl, sym, ap, subst, suc, ◌∙◌, arith}
+use Rattle.std.specs.Prelude.{is_some}
 use Rattle.std.specs.List.{All, remove, position, position_or_len}
 use Rattle.std.proofs.lemmas.Bool.Decides.{nat_tests}
 use Rattle.std.proofs.lemmas.Bool.{eqb-true}
@@ -45,6 +46,14 @@ some_true false n i e = cc
 -- no block of these pages has a place: none is kept
 pub none_kept : (pages : ℕ) (blocks : List (List ℕ)) → position (has_pages pages) blocks ≡ None → is_kept pages (map page_count blocks) ≡ false
 none_kept pages blocks e = sym (is_kept-map pages blocks) ∙ none_false _ _ e
+
+is_some-cond : (t : Bool) (n : ℕ) → is_some (cond t (Some n) None) ≡ t
+is_some-cond true n = refl
+is_some-cond false n = refl
+
+-- a block of these pages has a place exactly where one is kept
+pub is_some-position : (pages : ℕ) (blocks : List (List ℕ)) → is_some (position (has_pages pages) blocks) ≡ is_kept pages (map page_count blocks)
+is_some-position pages blocks = is_some-cond _ _ ∙ is_kept-map pages blocks
 
 -- the first block of these pages has this place
 pub record IsOldest (pages : ℕ) (blocks : List (List ℕ)) (place : ℕ) : Type 0 where

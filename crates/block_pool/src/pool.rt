@@ -73,6 +73,13 @@ impl Pool {
         self.made
     }
 
+    /// Whether it keeps a block of `pages` pages, so that `take` would make none.
+    pub fn keeps(&self, pages: u32) -> bool
+        ensures { result ≡ is_kept pages self.now.kept }
+    {
+        oldest(&self.kept, pages).is_some()
+    }
+
     /// A block of 1 to 65,536 pages, all bytes zero: the oldest kept one of that length, or a new
     /// one where none is kept. Only then may it be out of memory, and the pool stays as it was.
     pub fn take(&mut self, alloc: Global, pages: u32) -> Result<Block, NoMemory>

@@ -24,7 +24,7 @@ fn a_kept_block_comes_back_wiped(rt: HostRuntime) -> Result<(), Fail> {
     let mut block = crosses_threads(pool.take(rt.alloc(), 1)?);
     block.bytes_mut().fill(255);
     pool.put(block);
-    assert!(rt; counts(&pool, 1, 1));
+    assert!(rt; counts(&pool, 1, 1) && pool.keeps(1) && !pool.keeps(2));
     let one = pool.take(rt.alloc(), 1)?;
     assert!(rt; is_wiped(&one, 1) && counts(&pool, 0, 1));
     let two = pool.take(rt.alloc(), 2)?;
