@@ -7,12 +7,12 @@ use Rattle.std.specs.Prelude.{IfSome, option_map}
 use Rattle.discard_book.specs.declared.entry.Entry.{Entry}
 use Rattle.manager_state.specs.Managed.{Managed}
 use Rattle.manager.specs.Tokens.{Tokens, with_grant, with_round}
-use Rattle.manager.specs.Grows.{Grows, IsKept}
+use Rattle.manager.specs.Grows.{Grows, IsKept, Kept}
 use Rattle.discard_book.specs.Live.{grants}
 use Rattle.manager.specs.Counted.{counted}
 use Rattle.manager.specs.Grows.{is_round}
 use Rattle.manager.proofs.Growth.{grows_none, grows_more, grows_grants}
-use Rattle.manager.proofs.StateGrows.{counted_grows, Kept}
+use Rattle.manager.proofs.StateGrows.{counted_grows}
 
 told_more : (a b g r : ℕ) (f : Tokens → Tokens) → ((t : Tokens) → (f t).grants ≡ t.grants + a) → ((t : Tokens) → (f t).rounds ≡ t.rounds + b) → (totals : Option Tokens)
     → IfSome totals (λ t. (t.grants ≡ g) × (t.rounds ≡ r)) → IfSome (option_map f totals) (λ t. (t.grants ≡ g + a) × (t.rounds ≡ r + b))

@@ -4,21 +4,19 @@ use Rattle.std.specs.Prelude.{MatchBool, IfOk, OnErr}
 use Rattle.machine.specs.Reduction.{tries, purged_by}
 use Rattle.lru_reduce.specs.Wards.{candidates_of, total_pages}
 use Rattle.lru_reduce.specs.declared.reduction.Reduced.{Reduced}
-use Rattle.segment.specs.Owned.{Owned}
+use Rattle.block_pool.specs.Block.{page_count, IsZero}
+use Rattle.segment.specs.Owned.{Owned, IsGranted}
 use Rattle.discard_book.specs.declared.entry.Entry.{Entry}
 use Rattle.discard_book.specs.declared.entry.Entry.TheVariants as entry
 use Rattle.discard_book.specs.Live.{live, has_number, grants}
 use Rattle.discard_book.specs.Legal.{room}
 use Rattle.manager_state.specs.Managed.{Managed}
 use Rattle.manager_state.specs.Clients.{is_with}
-use Rattle.manager_state.specs.Calls.{Reduces, MakesRoom, Grants, RunsOut, RunsShort}
+use Rattle.manager_state.specs.Calls.{Reduces, MakesRoom, Grants, GrantsWith, RunsOut, RunsOutWith, RunsShort}
 use Rattle.manager.specs.Counted.{count_one, counted}
-use Rattle.manager.specs.Grows.{Grows}
+use Rattle.manager.specs.Grows.{Grows, Kept, GrantsOne}
+use Rattle.manager.specs.Brought.{IsFresh}
 use Rattle.manager.proofs.Growth.{grows_none, grows_more, grows_granted, grows_back, grows_reduced, grows_round, grows_grants}
-
--- the book grew under any limit by no Grant, and the state's limit stays
-abbrev pub Kept : Managed → Managed → Type 0
-Kept old new = ((limit : ℕ) → Grows limit 0 0 old.entries new.entries) × (new.limit ≡ old.limit)
 
 pub same_kept : (old new : Managed) → new.entries ≡ old.entries → new.limit ≡ old.limit → Kept old new
 same_kept old new e l = (λ limit. subst (λ (es : List Entry). Grows limit 0 0 old.entries es) (sym e) (grows_none limit old.entries), l)
@@ -40,17 +38,35 @@ makes_kept false to now old new h = subst (λ (m : Managed). Kept old m) (sym h)
 pub room_kept : (pages now : ℕ) (old new : Managed) → MakesRoom pages now old new → Kept old new
 room_kept pages now old new h = makes_kept (nat_lt (room old.limit pages) _) (room old.limit pages) now old new h
 
-pub grants_grows : (client pages now : ℕ) (side : Owned) (old new : Managed) → Grants client pages now side old new
-    → Grows old.limit 1 0 old.entries new.entries × (new.limit ≡ old.limit) × (side.id ≡ grants old.entries + 1)
-grants_grows client pages now side old new g =
-    let kept = room_kept pages now old g.between g.room in
-    let last : Grows old.limit 1 0 g.between.entries new.entries = subst (λ (es : List Entry). Grows old.limit 1 0 g.between.entries es) (sym g.enters.entries)
-    (subst (λ (l : ℕ). Grows old.limit 1 0 g.between.entries (g.between.entries ++ entry.Grant side.id client pages l ∷ [])) (sym kept.1) (grows_granted old.limit side.id client pages g.between.entries)) in
-    let number : grants g.between.entries ≡ grants old.entries + 0 = grows_grants old.limit 0 0 old.entries g.between.entries (kept.0 old.limit) in (
-      grows_more old.limit 0 0 1 0 old.entries g.between.entries new.entries (kept.0 old.limit) last,
-      g.enters.limit ∙ kept.1,
-      (let e = g.enters.number in omega arith),
-    )
+-- room was made for a grant, and its Grant was entered
+granted_one : (id client pages now : ℕ) (old between new : Managed) → MakesRoom pages now old between → id ≡ grants between.entries + 1
+    → new.entries ≡ between.entries ++ entry.Grant id client pages between.limit ∷ [] → new.limit ≡ between.limit → GrantsOne id old new
+granted_one id client pages now old between new room number entries limit =
+    let kept = room_kept pages now old between room in
+    let last : Grows old.limit 1 0 between.entries new.entries = subst (λ (es : List Entry). Grows old.limit 1 0 between.entries es) (sym entries)
+    (subst (λ (l : ℕ). Grows old.limit 1 0 between.entries (between.entries ++ entry.Grant id client pages l ∷ [])) (sym kept.1) (grows_granted old.limit id client pages between.entries)) in
+    let before : grants between.entries ≡ grants old.entries + 0 = grows_grants old.limit 0 0 old.entries between.entries (kept.0 old.limit) in
+    record {
+      grown = grows_more old.limit 0 0 1 0 old.entries between.entries new.entries (kept.0 old.limit) last;
+      limit = limit ∙ kept.1;
+      number = omega arith;
+    }
+
+pub grants_one : (client pages now : ℕ) (side : Owned) (old new : Managed) → Grants client pages now side old new → GrantsOne side.id old new
+grants_one client pages now side old new g = granted_one side.id client pages now old g.between new g.room g.enters.number g.enters.entries g.enters.limit
+
+pub grants_one_with : (client : ℕ) (block : List ℕ) (now : ℕ) (side : Owned) (old new : Managed) → GrantsWith client block now side old new → GrantsOne side.id old new
+grants_one_with client block now side old new g = granted_one side.id client (page_count block) now old g.between new g.room g.enters.number g.enters.entries g.enters.limit
+
+-- the segment of a block that was brought
+pub granted_with : (client pages : ℕ) (block : List ℕ) (now : ℕ) (side : Owned) (old new : Managed) → IsFresh pages block → GrantsWith client block now side old new → IsGranted pages side
+granted_with client pages block now side old new fresh g =
+    let is = g.enters.fresh in
+    record {
+      held = ap (λ (o : Owned). o.phase) is;
+      sized = ap (λ (o : Owned). o.pages) is ∙ fresh.1;
+      zero_bytes = subst (λ (b : List ℕ). IsZero pages b) (sym (ap (λ (o : Owned). o.bytes) is)) fresh.0;
+    }
 
 runs_short : (pages : ℕ) (old new : Managed) → RunsShort pages old new → Kept old new
 runs_short pages old new h = ⊎_elim
@@ -65,6 +81,13 @@ runs_out_kept pages now old new r = then_kept old r.between new
     (λ h. room_kept pages now old r.between h)
     r.room)
     (runs_short pages r.between new r.short)
+
+-- a grant with a block that was brought, out of memory
+pub runs_out_with_kept : (block : List ℕ) (now : ℕ) (old new : Managed) → RunsOutWith block now old new → Kept old new
+runs_out_with_kept block now old new r = ⊎_elim
+    (λ (e : new ≡ old). same_kept old new (ap (λ (m : Managed). m.entries) e) (ap (λ (m : Managed). m.limit) e))
+    (λ h. room_kept (page_count block) now old new h)
+    r
 
 one_counted : (limit : ℕ) (b : Bool) (id : ℕ) (book : List Entry) → Grows limit 0 0 book (if b then book ++ entry.Back id ∷ [] else book)
 one_counted limit true id book = grows_back limit id book

@@ -1,5 +1,5 @@
 -- How the book of a manager grows.
-use Rattle.std.specs.Prelude.{◌≡◌, ℕ, ◌==◌, ◌≤◌, Bool, true, false, ◌&&◌, List, [], ◌∷◌, ◌++◌, count_by, Option, IfSome, is_some}
+use Rattle.std.specs.Prelude.{◌≡◌, ℕ, ◌+◌, ◌==◌, ◌≤◌, Bool, true, false, ◌&&◌, List, [], ◌∷◌, ◌++◌, count_by, Option, IfSome, is_some}
 use Rattle.discard_book.specs.declared.entry.Entry.{Entry}
 use Rattle.discard_book.specs.declared.entry.Entry.TheVariants.{Grant, Reduced, Purge, Back}
 use Rattle.discard_book.specs.Live.{grants}
@@ -47,3 +47,13 @@ pub record IsKept (limit : ℕ) (handed : List Entry) (counts : Bool) (totals : 
   pub same : state.limit ≡ limit
   pub account : IsAccounted limit handed totals state.entries
   pub counted : is_some totals ≡ counts
+
+-- the book grew under any limit by no Grant, and the state's limit stays
+abbrev pub Kept : Managed → Managed → Type 0
+Kept old new = ((limit : ℕ) → Grows limit 0 0 old.entries new.entries) × (new.limit ≡ old.limit)
+
+-- the book grew by one Grant, of this number, which is one more than it had Grants; the state's limit stays
+pub record GrantsOne (id : ℕ) (old new : Managed) : Type 0 where
+  pub grown : Grows old.limit 1 0 old.entries new.entries
+  pub limit : new.limit ≡ old.limit
+  pub number : id ≡ grants old.entries + 1

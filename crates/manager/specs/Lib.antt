@@ -4,3 +4,4 @@ pub mod Grows
 pub mod Ends
 pub mod Standing
 pub mod Lending
+pub mod Brought

@@ -5,13 +5,15 @@ ghost use Rattle.segment.specs.Owned.{IsGranted};
 ghost use Rattle.discard_book.specs.Legal.{IsLegal};
 ghost use Rattle.manager_state.specs.Calls.{limit_under};
 ghost use Rattle.manager.specs.Tokens.{with_grant, with_round};
-ghost use Rattle.manager.specs.Grows.{Grows, IsAccounted};
+ghost use Rattle.manager.specs.Grows.{Grows, IsAccounted, Kept, GrantsOne};
+ghost use Rattle.manager.specs.Brought.{IsBrought};
 ghost use Rattle.manager.specs.Ends.{HasEnded};
 ghost use Rattle.manager.specs.declared.shares.TheConstants.{PARTS};
 
 use crate::desk::Desk;
 use crate::fixed::Fixed;
 use crate::shares::{Shares, Totals, count_grant, count_round};
+use block_pool::Block;
 use lru_reduce::Reduced;
 use manager_state::{Back, Level, State};
 use return_queue::{Note, Returns};
@@ -56,6 +58,35 @@ fn entry_count(state: &State) -> u64
     ensures few { result < 2 ^ 64 }
 {
     state.book().entries().len() as u64
+}
+
+/// Grants a segment with the block that was brought, or with one that the pool keeps, so that no
+/// block is made here. It answers None where there is neither.
+fn grant_in_turn(
+    state: &mut State,
+    alloc: Global,
+    client: u32,
+    pages: u32,
+    now: u64,
+    block: Option<Block>,
+) -> Result<Option<OwnerSide>, NoMemory>
+    requires client { 1 ≤ client }
+    requires pages { (1 ≤ pages) × (pages ≤ MOST_PAGES) }
+    requires moment { IsMoment now }
+    requires block { IsBrought pages block }
+    ensures side { IfOk result (λ turn. IfSome turn (λ side. IsGranted pages side)) }
+    ensures grants { IfOk result (λ turn. IfSome turn (λ side.
+        GrantsOne side.id state.old state.new)) }
+    ensures none { IfOk result (λ turn. IfNone turn (state.new ≡ state.old)) }
+    ensures err { OnErr result (Kept state.old state.new) }
+{
+    if let Some(block) = block {
+        return Ok(Some(state.grant_with(alloc, client, block, now)?));
+    }
+    if state.keeps_block(pages) {
+        return Ok(Some(state.grant(alloc, client, pages, now)?));
+    }
+    Ok(None)
 }
 
 impl<R: Returns, F: Fixed, G: Ledger, E: Ledger> Behind<R, F, G, E> {
@@ -104,7 +135,8 @@ impl<R: Returns, F: Fixed, G: Ledger, E: Ledger> Behind<R, F, G, E> {
         self.desk.drain(rt, returns, pass)
     }
 
-    /// Grants a segment and counts it, or answers None where the book has fewer Grants than `above`.
+    /// Grants a segment and counts it, with the block that was brought or one that the pool keeps.
+    /// It answers None where there is neither, and where the book has fewer Grants than `above`.
     pub(crate) fn grant(
         &mut self,
         _settled: Settled,
@@ -113,11 +145,13 @@ impl<R: Returns, F: Fixed, G: Ledger, E: Ledger> Behind<R, F, G, E> {
         pages: u32,
         now: u64,
         above: u64,
+        block: Option<Block>,
         shares: &mut Option<Shares<G, E>>,
     ) -> Result<Option<OwnerSide>, NoMemory>
         requires client { 1 ≤ client }
         requires pages { (1 ≤ pages) × (pages ≤ MOST_PAGES) }
         requires moment { IsMoment now }
+        requires block { IsBrought pages block }
         requires shares { is_some shares.old ≡ F.counts }
         ensures side { IfOk result (λ turn. IfSome turn (λ side. IsGranted pages side)) }
         ensures number { IfOk result (λ turn. IfSome turn (λ side. above < side.id)) }
@@ -129,7 +163,10 @@ impl<R: Returns, F: Fixed, G: Ledger, E: Ledger> Behind<R, F, G, E> {
         if self.desk.state.book().grants() < above {
             return Ok(None);
         }
-        let side = self.desk.state.grant(alloc, client, pages, now)?;
+        let state = &mut self.desk.state;
+        let Some(side) = grant_in_turn(state, alloc, client, pages, now, block)? else {
+            return Ok(None);
+        };
         count_grant(&mut self.totals, shares);
         Ok(Some(side))
     }

@@ -6,12 +6,13 @@ ghost use Rattle.segment.specs.Owned.{IsGranted};
 ghost use Rattle.manager_state.specs.Calls.{limit_under};
 ghost use Rattle.manager.specs.Tokens.{with_round, standing_of};
 ghost use Rattle.manager.specs.Standing.{Tracks};
+ghost use Rattle.manager.specs.Brought.{IsFresh, IsBrought};
 ghost use Rattle.manager.specs.Ends.{HasEnded};
 
 use crate::fixed::Fixed;
 use crate::manager::Manager;
 use crate::shares::Shares;
-use block_pool::Block;
+use block_pool::{Block, Pool};
 use lru_reduce::Reduced;
 use manager_state::Level;
 use return_queue::{Note, PlainReturns, Returns};
@@ -26,8 +27,9 @@ use units::NoMemory;
 /// One thread's way to a manager: it grants segments and takes them back.
 ///
 /// Its numbers rise. Before a grant it compares, under the lock, its greatest number with the
-/// number of Grants in the book, and tries again where the book has fewer. What comes back goes
-/// into the queue; only where this is full does the handle take the lock, and then counts first
+/// number of Grants in the book, and tries again where the book has fewer. Where the manager's pool
+/// keeps no block for a grant, the handle lets the lock go, makes one, and comes again with it. What
+/// comes back goes into the queue; only where this is full does the handle take the lock, and then counts first
 /// what stood before it.
 #[derive(Drop)]
 pub struct Handle<'m, R: Returns, F: Fixed, G: Ledger, E: Ledger> {
@@ -111,8 +113,18 @@ impl<R: Returns, F: Fixed, G: Ledger, E: Ledger> Manager<R, F, G, E> {
     }
 }
 
+/// A new block of 1 to 65,536 pages, all bytes zero. No lock is held while it is made.
+fn new_block(alloc: Global, pages: u32) -> Result<Block, NoMemory>
+    requires { (1 ≤ pages) × (pages ≤ MOST_PAGES) }
+    ensures { IfOk result (IsFresh pages) }
+{
+    let mut pool = Pool::new(alloc, 0)?;
+    pool.take(alloc, pages)
+}
+
 impl<'m, R: Returns, F: Fixed, G: Ledger, E: Ledger> Handle<'m, R, F, G, E> {
-    /// One turn under the lock: None where the book has fewer Grants than this handle's greatest
+    /// One turn under the lock, with the block that was brought or one that the manager's pool keeps:
+    /// None where there is neither, and where the book has fewer Grants than this handle's greatest
     /// number.
     fn turn<H: Wait>(
         &mut self,
@@ -121,10 +133,12 @@ impl<'m, R: Returns, F: Fixed, G: Ledger, E: Ledger> Handle<'m, R, F, G, E> {
         client: u32,
         pages: u32,
         now: u64,
+        block: Option<Block>,
     ) -> Result<Option<OwnerSide>, NoMemory>
         requires client { 1 ≤ client }
         requires pages { (1 ≤ pages) × (pages ≤ MOST_PAGES) }
         requires moment { IsMoment now }
+        requires block { IsBrought pages block }
         ensures side { IfOk result (λ turn. IfSome turn (λ side. IsGranted pages side)) }
         ensures rises { IfOk result (λ turn. IfSome turn (λ side. self.old.greatest < side.id)) }
         ensures greatest { IfOk result (λ turn. IfSome turn (λ side.
@@ -144,6 +158,7 @@ impl<'m, R: Returns, F: Fixed, G: Ledger, E: Ledger> Handle<'m, R, F, G, E> {
             pages,
             now,
             self.greatest,
+            block,
             &mut self.shares,
         )?;
         match turn {
@@ -220,10 +235,12 @@ impl<'m, R: Returns, F: Fixed, G: Ledger, E: Ledger> Granter for Handle<'m, R, F
         pages: u32,
         now: u64,
     ) -> Result<OwnerSide, NoMemory> {
+        let mut block = None;
         for _ in rt.forever() {
-            if let Some(side) = self.turn(rt, alloc, client, pages, now)? {
+            if let Some(side) = self.turn(rt, alloc, client, pages, now, block)? {
                 return Ok(side);
             }
+            block = Some(new_block(alloc, pages)?);
         }
         unreachable!()
     }

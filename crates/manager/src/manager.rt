@@ -7,6 +7,7 @@ ghost use Rattle.manager_state.specs.Calls.{limit_under};
 ghost use Rattle.return_queue.specs.Name.{no_queue};
 ghost use Rattle.manager.specs.Tokens.{with_grant, with_round};
 ghost use Rattle.manager.specs.Grows.{Grows};
+ghost use Rattle.manager.specs.Brought.{IsBrought};
 ghost use Rattle.manager.specs.Ends.{HasEnded};
 ghost use Rattle.manager.specs.declared.shares.TheConstants.{PARTS};
 
@@ -14,6 +15,7 @@ use crate::behind::Behind;
 use crate::desk::Desk;
 use crate::fixed::Fixed;
 use crate::shares::{Shares, Totals};
+use block_pool::Block;
 use lru_reduce::Reduced;
 use manager_state::{Back, Level, State};
 use return_queue::{Note, PlainReturns, Returns};
@@ -96,7 +98,8 @@ impl<R: Returns, F: Fixed, G: Ledger, E: Ledger> Manager<R, F, G, E> {
         &self.returns
     }
 
-    /// One turn of a grant: None where the book has fewer Grants than `above`.
+    /// One turn of a grant, with the block that was brought or one that the pool keeps: None where
+    /// there is neither, and where the book has fewer Grants than `above`.
     pub(crate) fn grant<H: Wait>(
         &self,
         rt: &H,
@@ -105,11 +108,13 @@ impl<R: Returns, F: Fixed, G: Ledger, E: Ledger> Manager<R, F, G, E> {
         pages: u32,
         now: u64,
         above: u64,
+        block: Option<Block>,
         shares: &mut Option<Shares<G, E>>,
     ) -> Result<Option<OwnerSide>, NoMemory>
         requires client { 1 ≤ client }
         requires pages { (1 ≤ pages) × (pages ≤ MOST_PAGES) }
         requires moment { IsMoment now }
+        requires block { IsBrought pages block }
         requires shares { is_some shares.old ≡ F.counts }
         ensures side { IfOk result (λ turn. IfSome turn (λ side. IsGranted pages side)) }
         ensures number { IfOk result (λ turn. IfSome turn (λ side. above < side.id)) }
@@ -120,7 +125,7 @@ impl<R: Returns, F: Fixed, G: Ledger, E: Ledger> Manager<R, F, G, E> {
     {
         let mut behind = self.behind.lock(rt);
         let settled = behind.settle(rt, &self.returns);
-        behind.grant(settled, alloc, client, pages, now, above, shares)
+        behind.grant(settled, alloc, client, pages, now, above, block, shares)
     }
 
     /// Settles, reduces to the limit and counts it in shares.

@@ -63,6 +63,25 @@ pub record Grants (client pages now : ℕ) (side : Owned) (old new : Managed) : 
   pub room : MakesRoom pages now old between
   pub enters : Enters client pages side between new
 
+-- The same with a block that was handed in: the new segment has the block's bytes, and the pool stayed.
+pub record EntersWith (client : ℕ) (block : List ℕ) (side : Owned) (old new : Managed) : Type 0 where
+  pub number : side.id ≡ grants old.entries + 1
+  pub fresh : side ≡ new_owner side.id block
+  pub entries : new.entries ≡ old.entries ++ entry.Grant side.id client (page_count block) old.limit ∷ []
+  pub limit : new.limit ≡ old.limit
+  pub sides : new.sides ≡ old.sides ++ new_warden side.id (page_count block) ∷ []
+  pub stock : new.stock ≡ old.stock
+
+-- a grant with a block that was handed in: first room was made for its pages, and then the client got its segment
+pub record GrantsWith (client : ℕ) (block : List ℕ) (now : ℕ) (side : Owned) (old new : Managed) : Type 0 where
+  pub between : Managed
+  pub room : MakesRoom (page_count block) now old between
+  pub enters : EntersWith client block side between new
+
+-- such a grant ran out of memory: all is as before, or as it is once room was made
+abbrev pub RunsOutWith : List ℕ → ℕ → Managed → Managed → Type 0
+RunsOutWith block now old new = (new ≡ old) ⊎ MakesRoom (page_count block) now old new
+
 -- a segment was not made: nothing changed, or a block of these pages was taken from the pool and put back
 abbrev pub RunsShort : ℕ → Managed → Managed → Type 0
 RunsShort pages old new =

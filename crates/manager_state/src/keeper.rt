@@ -1,6 +1,7 @@
-ghost use Rattle.std.specs.Prelude.{◌≡◌, ℕ, ◌+◌, ◌<◌, ◌≤◌, ◌++◌, [], ◌∷◌, true, length, vec_len, vec_capacity, IfOk, OnOk, OnErr};
+ghost use Rattle.std.specs.Prelude.{◌≡◌, ℕ, ◌+◌, ◌<◌, ◌≤◌, ◌++◌, [], ◌∷◌, true, length, vec_len, vec_capacity, IfOk, IfErr, OnOk, OnErr};
 ghost use Rattle.units.specs.Moment.{IsMoment};
 ghost use Rattle.units.specs.declared.TheConstants.{MOST_PAGES};
+ghost use Rattle.block_pool.specs.Block.{page_count};
 ghost use Rattle.block_pool.specs.Stock.{no_blocks};
 ghost use Rattle.discard_book.specs.Live.{live, has_number, grants, AreDrawn};
 ghost use Rattle.discard_book.specs.Legal.{room, has_room};
@@ -8,7 +9,7 @@ ghost use Rattle.discard_book.specs.declared.entry.Entry.TheVariants as entry;
 ghost use Rattle.lru_reduce.specs.Wards.{IsNew, without_ward};
 ghost use Rattle.manager_state.specs.Managed.{managed};
 ghost use Rattle.manager_state.specs.Clients.{is_with};
-ghost use Rattle.manager_state.specs.Calls.{Reduces, MakesRoom, Enters, RunsShort, GivesBack, TriesOne, Removes};
+ghost use Rattle.manager_state.specs.Calls.{Reduces, MakesRoom, Enters, EntersWith, RunsShort, GivesBack, TriesOne, Removes};
 ghost use Rattle.manager_state.specs.Keeping.{client_at, Agrees, has_pair, KeepsLive, KeepsComing, LetsGo};
 
 use crate::answers::{Back, Tried};
@@ -16,7 +17,7 @@ use crate::numbers::Numbers;
 use block_pool::{Block, Pool};
 use discard_book::{Book, Entry};
 use lru_reduce::{Order, Reduced};
-use segment::{OwnerSide, Purge, make};
+use segment::{OwnerSide, Purge, Unmade, make};
 use std::alloc::Global;
 use units::NoMemory;
 
@@ -146,9 +147,46 @@ impl Keeper {
         self.book.grants() + 1
     }
 
-    /// Gives a client a new segment, where there is room for it. A block that was taken goes back to the pool where
-    /// the segment cannot be made.
+    /// Gives a client a new segment with this block, where there is room for it. The block comes back where the segment
+    /// cannot be made.
     pub(crate) fn enter(
+        &mut self,
+        alloc: Global,
+        client: u32,
+        block: Block,
+        limit: u64,
+    ) -> Result<OwnerSide, Unmade>
+        requires client { 1 ≤ client }
+        requires room { has_room self.old.book.entries (room limit (page_count block)) ≡ true }
+        requires book { self.old.promised + 2 ≤ self.old.book.spare }
+        requires order { 1 ≤ self.old.order.spare }
+        requires clients { vec_len self.old.clients < vec_capacity self.old.clients }
+        requires number { has_pair self.old.numbers client (length self.old.clients.items + 1)
+            ≡ true }
+        ensures ok { IfOk result (λ side. EntersWith client block side
+            (managed limit self.old.book self.old.order self.old.pool)
+            (managed limit self.new.book self.new.order self.new.pool)) }
+        ensures back { IfErr result (λ unmade. unmade.block ≡ block) }
+        ensures err { OnErr result (managed limit self.new.book self.new.order self.new.pool
+            ≡ managed limit self.old.book self.old.order self.old.pool) }
+    {
+        let id = self.next_number();
+        let pages = block.pages();
+        let (owner, warden) = make(alloc, id, block)?;
+        self.book.add(Entry::Grant {
+            id,
+            client,
+            pages,
+            limit,
+        });
+        self.order.add(warden);
+        self.clients.push_reserved(client);
+        self.promised += 1;
+        Ok(owner)
+    }
+
+    /// The same with a block of the pool, which goes back to it where the segment cannot be made.
+    pub(crate) fn enter_from_pool(
         &mut self,
         alloc: Global,
         client: u32,
@@ -170,21 +208,9 @@ impl Keeper {
             (managed limit self.old.book self.old.order self.old.pool)
             (managed limit self.new.book self.new.order self.new.pool)) }
     {
-        let id = self.next_number();
         let block = self.pool.take(alloc, pages)?;
-        match make(alloc, id, block) {
-            Ok((owner, warden)) => {
-                self.book.add(Entry::Grant {
-                    id,
-                    client,
-                    pages,
-                    limit,
-                });
-                self.order.add(warden);
-                self.clients.push_reserved(client);
-                self.promised += 1;
-                Ok(owner)
-            }
+        match self.enter(alloc, client, block, limit) {
+            Ok(owner) => Ok(owner),
             Err(unmade) => {
                 self.pool.put(unmade.block);
                 Err(NoMemory)

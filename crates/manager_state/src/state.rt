@@ -1,11 +1,11 @@
 ghost use Rattle.std.specs.Prelude.{◌≡◌, ◌≤◌, [], IfOk, OnErr};
 ghost use Rattle.units.specs.Moment.{IsMoment};
 ghost use Rattle.units.specs.declared.TheConstants.{MOST_PAGES};
-ghost use Rattle.block_pool.specs.Stock.{no_blocks};
+ghost use Rattle.block_pool.specs.Stock.{no_blocks, is_kept};
 ghost use Rattle.discard_book.specs.Live.{live, granted};
 ghost use Rattle.discard_book.specs.Legal.{IsLegal};
 ghost use Rattle.lru_reduce.specs.Wards.{segments_of};
-ghost use Rattle.manager_state.specs.Calls.{Reduces, SetsLimit, limit_under, Grants, RunsOut, GivesBack, TriesOne, Removes};
+ghost use Rattle.manager_state.specs.Calls.{Reduces, SetsLimit, limit_under, Grants, GrantsWith, RunsOut, RunsOutWith, GivesBack, TriesOne, Removes};
 
 use crate::answers::{Back, Level, Tried};
 use crate::keeper::Keeper;
@@ -69,7 +69,38 @@ impl State {
     {
         self.keeper.grow(alloc, client)?;
         self.keeper.fit(self.limit, pages, now);
-        self.keeper.enter(alloc, client, pages, self.limit)
+        self.keeper
+            .enter_from_pool(alloc, client, pages, self.limit)
+    }
+
+    /// Whether its pool keeps a block of `pages` pages, so that a grant of them makes none.
+    pub fn keeps_block(&self, pages: u32) -> bool
+        ensures { result ≡ is_kept pages self.now.stock.kept }
+    {
+        self.keeper.pool.keeps(pages)
+    }
+
+    /// Grants a client a segment, held, with this block and its bytes. Room for its pages is made as in `grant`; the
+    /// pool gives no block, so that nothing is made or wiped for it here. `NoMemory` leaves all as before, or after the
+    /// reduction where one was made, and lets the block go.
+    pub fn grant_with(
+        &mut self,
+        alloc: Global,
+        client: u32,
+        block: Block,
+        now: u64,
+    ) -> Result<OwnerSide, NoMemory>
+        requires client { 1 ≤ client }
+        requires moment { IsMoment now }
+        ensures ok { IfOk result (λ side. GrantsWith client block now side self.old self.new) }
+        ensures err { OnErr result (RunsOutWith block now self.old self.new) }
+    {
+        self.keeper.grow(alloc, client)?;
+        self.keeper.fit(self.limit, block.pages(), now);
+        match self.keeper.enter(alloc, client, block, self.limit) {
+            Ok(owner) => Ok(owner),
+            Err(_) => Err(NoMemory),
+        }
     }
 
     /// Takes the segment of a number back from a client, with its block where the client has it; the block goes to

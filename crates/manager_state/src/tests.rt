@@ -1,6 +1,7 @@
 ghost use Rattle.units.specs.Moment.{IsMoment};
 
 use crate::{Back, Level, State, Tried};
+use block_pool::Pool;
 use lru_reduce::Reduced;
 use segment::Lock;
 use std::alloc::Global;
@@ -182,9 +183,24 @@ fn makes_room(alloc: Global) -> Result<bool, Fail> {
     Ok(held && before == 5 && after == 6 && third.id() == 3 && first.lock() == Lock::Gone)
 }
 
+/// A grant with a block that was brought makes room as any other, keeps the block's bytes, and leaves
+/// the pool what it had.
+fn grants_with(alloc: Global) -> Result<bool, Fail> {
+    let mut state = State::new(alloc, 4, 1)?;
+    let mut first = state.grant(alloc, 1, 4, 1)?;
+    first.unlock(3);
+    let mut block = Pool::new(alloc, 0)?.take(alloc, 2)?;
+    block.bytes_mut().fill(7);
+    let second = state.grant_with(alloc, 2, block, 4)?;
+    let told = second.id() == 2 && second.bytes().iter().all(|byte| *byte == 7);
+    let kept = state.keeps_block(4) && !state.keeps_block(2);
+    Ok(told && kept && state.granted() == 2 && first.lock() == Lock::Gone)
+}
+
 #[test]
 fn grants_within_a_limit(rt: HostRuntime) -> Result<(), Fail> {
     assert!(rt; makes_room(rt.alloc())? && runs(rt.alloc(), 1, &ENFORCES)?);
+    assert!(rt; grants_with(rt.alloc())?);
     Ok(())
 }
 

@@ -18,11 +18,11 @@ returns-clause-ok c =
     let between : Managed = managed c.self.inside.limit c.fit.new.self.book c.fit.new.self.order c.fit.new.self.pool in
     let start = c.in_ok-grow.ensures.same c.self.inside.limit ∙ c.self.view_is in
     let room = subst (λ (m : Managed). MakesRoom c.args.pages c.args.now m between) start c.fit.ensures.makes in
-    IfOk-weaker c.enter.result _ _ (λ side entered. record { between = between; room = room; enters = entered }) c.enter.ensures.ok
+    IfOk-weaker c.enter_from_pool.result _ _ (λ side entered. record { between = between; room = room; enters = entered }) c.enter_from_pool.ensures.ok
 
 pub returns-clause-err : goal.returns-clause-err
 returns-clause-err c =
     let between : Managed = managed c.self.inside.limit c.fit.new.self.book c.fit.new.self.order c.fit.new.self.pool in
     let start = c.in_ok-grow.ensures.same c.self.inside.limit ∙ c.self.view_is in
     let room = subst (λ (m : Managed). MakesRoom c.args.pages c.args.now m between) start c.fit.ensures.makes in
-    on_err_weaker c.enter.result (λ short. record { between = between; room = inr room; short = short }) c.enter.ensures.err
+    on_err_weaker c.enter_from_pool.result (λ short. record { between = between; room = inr room; short = short }) c.enter_from_pool.ensures.err
