@@ -1,28 +1,18 @@
-use Rattle.std.proofs.Common.{rules, ◌≡◌, ℕ, ◌+◌, ◌^◌, ◌<◌, ◌≤◌, Some, None, true, false, length, IfSome, IfNone, IfOk, OnOk, OnErr, is_some, option_map, ◌-◌, ◌*◌, ◌/◌, ◌%◌, Bool, nat_eq, nat_lt, List, [], ◌∷◌, ◌++◌, slice_index_or, slice_set, bit_and, bit_or, Fits, w8, w32, w64, Bor, MutBor}
-use Rattle.units.specs.Moment.{IsMoment}
-use Rattle.units.specs.declared.TheConstants.{MOST_PAGES}
-use Rattle.segment.specs.Owned.{IsGranted}
-use Rattle.discard_book.specs.Legal.{IsLegal}
-use Rattle.manager_state.specs.Calls.{limit_under}
-use Rattle.manager.specs.Tokens.{with_grant, with_round}
-use Rattle.manager.specs.Grows.{Grows, IsAccounted, Kept, GrantsOne}
-use Rattle.manager.specs.Brought.{IsBrought}
-use Rattle.manager.specs.Ends.{HasEnded}
-use Rattle.manager.specs.declared.shares.TheConstants.{PARTS}
+use Rattle.manager_state.proofs.Rooms.{on_err}
+use Rattle.manager.proofs.StateGrows.{grants_one, grants_one_with, granted_with, runs_out_kept, runs_out_with_kept}
 use Rattle.manager.proofs.behind.grant_in_turn.Goals as goal
 
--- src/behind.rt:84:24
 pub returns-in_err-grant_with-clause-err : goal.returns-in_err-grant_with-clause-err
-returns-in_err-grant_with-clause-err c = ?
+returns-in_err-grant_with-clause-err c = on_err c.from_residual.result (runs_out_with_kept _ _ _ _ c.in_err-grant_with.ensures.err)
 
--- src/behind.rt:84:9
+pub returns-in-Some-clause-side : goal.returns-in-Some-clause-side
+returns-in-Some-clause-side c = granted_with _ _ _ _ _ _ _ (rw c.in-Some.is at c.requires.block) c.in_ok-grant_with.ensures.ok
+
 pub returns-in-Some-clause-grants : goal.returns-in-Some-clause-grants
-returns-in-Some-clause-grants c = ?
+returns-in-Some-clause-grants c = grants_one_with _ _ _ _ _ _ c.in_ok-grant_with.ensures.ok
 
--- src/behind.rt:87:24
 pub returns-in_err-grant-clause-err : goal.returns-in_err-grant-clause-err
-returns-in_err-grant-clause-err c = ?
+returns-in_err-grant-clause-err c = on_err c.from_residual-in_err-grant.result (runs_out_kept _ _ _ _ c.in_err-grant.ensures.err)
 
--- src/behind.rt:87:9
 pub returns-then-keeps_block-clause-grants : goal.returns-then-keeps_block-clause-grants
-returns-then-keeps_block-clause-grants c = ?
+returns-then-keeps_block-clause-grants c = grants_one _ _ _ _ _ _ c.in_ok-grant.ensures.ok
