@@ -179,7 +179,8 @@ impl Heaps {
 
     /// Locks a piece: misuse where it is not there, or is locked.
     pub(crate) fn lock(&mut self, number: u64) -> Answer
-        ensures locks { OnPiece number (LocksSlot result) (result ≡ answer.Misuse) self.old self.new }
+        ensures locks { OnPiece number (LocksSlot result) (result ≡ answer.Misuse)
+            self.old self.new }
     {
         let Some(taker) = self.taker(number) else {
             return Answer::Misuse;

@@ -52,7 +52,8 @@ where
     requires dealt { AreDealt (λ desk. desk.places.items) requests.now 0 desks.old }
     ensures frame { frame.new ≡ record frame.old { given = length requests.now } }
     ensures len { length desks.new ≡ length desks.old }
-    ensures dealt { AreDealt (λ desk. desk.places.items) requests.now (length requests.now) desks.new }
+    ensures dealt { AreDealt (λ desk. desk.places.items)
+        requests.now (length requests.now) desks.new }
     ensures empty { AllEmpty (λ desk. desk.places.items) desks.new }
 {
     for number in 0..requests.len() {
@@ -116,7 +117,8 @@ where
     requires count { F.count ≡ length requests.now }
     requires none { (frame.from ≡ F.count) × (frame.bytes ≡ []) }
     requires known { AreOf (length desks.old) requests.now }
-    requires dealt { AreDealt (λ desk. desk.places.items) requests.now (length requests.now) desks.old }
+    requires dealt { AreDealt (λ desk. desk.places.items)
+        requests.now (length requests.now) desks.old }
     ensures ended { AllKeep (λ desk. desk.ended) (λ desk. desk.settled) desks.old desks.new }
     ensures replies { (tiling : TilingValue) → HoldReplies tiling F.size
         → AllAnswer (λ desk. desk.places.items) tiling requests.now desks.old

@@ -49,7 +49,8 @@ where
     requires grants { shares.grants ≡ 0 }
     requires rounds { shares.rounds ≤ MOST_ROUNDS }
     requires served { AllServed (λ e. e.served) (λ desk. desk.ended) run.now desks.items }
-    ensures { IfOk result (λ taken. HasTaken run.now run.now.cfg.clients shares taken.shares taken.clients.items) }
+    ensures { IfOk result (λ taken.
+        HasTaken run.now run.now.cfg.clients shares taken.shares taken.clients.items) }
 {
     let mut taken = Taken {
         clients: Vec::new(alloc),

@@ -56,7 +56,8 @@ where
     requires room { room ≡ record { base = F.base; size = F.size; count = F.count } }
     requires sized { HoldReplies run.now.tiling F.size }
     requires places { F.count ≡ length run.now.requests }
-    ensures replies { IfOk result (λ r. r.0 ≡ replies_to run.now.tiling (tiles_of run.now.requests)) }
+    ensures replies { IfOk result (λ r.
+        r.0 ≡ replies_to run.now.tiling (tiles_of run.now.requests)) }
     ensures taken { IfOk result (λ r. HasTaken run.now run.now.cfg.clients
         (record { parts = PARTS - run.now.cfg.clients; grants = 0; rounds = run.now.cfg.rounds })
         r.1.shares r.1.clients.items) }
