@@ -3,3 +3,4 @@ pub mod Growth
 pub mod StateGrows
 pub mod Keeping
 pub mod Ending
+pub mod Made

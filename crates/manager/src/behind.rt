@@ -78,6 +78,7 @@ fn grant_in_turn(
     ensures grants { IfOk result (λ turn. IfSome turn (λ side.
         GrantsOne side.id state.old state.new)) }
     ensures none { IfOk result (λ turn. IfNone turn (state.new ≡ state.old)) }
+    ensures made { state.new.stock.made ≡ state.old.stock.made }
     ensures err { OnErr result (Kept state.old state.new) }
 {
     if let Some(block) = block {

@@ -1,5 +1,7 @@
+use Rattle.std.proofs.Common.{sym, ◌∙◌}
 use Rattle.manager_state.proofs.Rooms.{on_err}
 use Rattle.manager.proofs.StateGrows.{grants_one, grants_one_with, granted_with, runs_out_kept, runs_out_with_kept}
+use Rattle.manager.proofs.Made.{grants_made, grants_with_made, runs_out_made, runs_out_with_made}
 use Rattle.manager.proofs.behind.grant_in_turn.Goals as goal
 
 pub returns-in_err-grant_with-clause-err : goal.returns-in_err-grant_with-clause-err
@@ -16,3 +18,15 @@ returns-in_err-grant-clause-err c = on_err c.from_residual-in_err-grant.result (
 
 pub returns-then-keeps_block-clause-grants : goal.returns-then-keeps_block-clause-grants
 returns-then-keeps_block-clause-grants c = grants_one _ _ _ _ _ _ c.in_ok-grant.ensures.ok
+
+pub returns-in_err-grant_with-clause-made : goal.returns-in_err-grant_with-clause-made
+returns-in_err-grant_with-clause-made c = runs_out_with_made _ _ _ _ c.in_err-grant_with.ensures.err
+
+pub returns-in-Some-clause-made : goal.returns-in-Some-clause-made
+returns-in-Some-clause-made c = grants_with_made _ _ _ _ _ _ c.in_ok-grant_with.ensures.ok
+
+pub returns-in_err-grant-clause-made : goal.returns-in_err-grant-clause-made
+returns-in_err-grant-clause-made c = runs_out_made _ _ _ _ (sym c.keeps_block.ensures ∙ c.if-keeps_block.true) c.in_err-grant.ensures.err
+
+pub returns-then-keeps_block-clause-made : goal.returns-then-keeps_block-clause-made
+returns-then-keeps_block-clause-made c = grants_made _ _ _ _ _ _ (sym c.keeps_block.ensures ∙ c.if-keeps_block.true) c.in_ok-grant.ensures.ok
