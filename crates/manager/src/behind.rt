@@ -1,8 +1,9 @@
-ghost use Rattle.std.specs.Prelude.{◌≡◌, ℕ, ◌+◌, ◌^◌, ◌<◌, ◌≤◌, Some, None, true, false, length, IfSome, IfNone, IfOk, OnOk, OnErr, is_some, option_map};
+ghost use Rattle.std.specs.Prelude.{◌≡◌, ℕ, ◌+◌, ◌^◌, ◌<◌, ◌≤◌, Some, None, true, false, [], length, IfSome, IfNone, IfOk, OnOk, OnErr, is_some, option_map};
 ghost use Rattle.units.specs.Moment.{IsMoment};
 ghost use Rattle.units.specs.declared.TheConstants.{MOST_PAGES};
 ghost use Rattle.segment.specs.Owned.{IsGranted};
 ghost use Rattle.discard_book.specs.Legal.{IsLegal};
+ghost use Rattle.return_queue.specs.Order.{Starts, notes, InOrder, AllTaken};
 ghost use Rattle.manager_state.specs.Calls.{limit_under};
 ghost use Rattle.manager.specs.Tokens.{with_grant, with_round};
 ghost use Rattle.manager.specs.Grows.{Grows, IsAccounted, Kept, GrantsOne};
@@ -25,7 +26,7 @@ use std::sync::ledger::Ledger;
 use units::NoMemory;
 
 /// What lies behind a manager's lock: the desk, and the totals of the ledgers where the manager
-/// has them. Its state has the limit that was fixed, its book grew from the entries handed in and
+/// has them. Contracts see the desk's taker. Its state has the limit that was fixed, its book grew from the entries handed in and
 /// each Grant since carries the limit, the totals are what the book gained, and the taker is of the
 /// manager's queue.
 #[derive(Drop)]
@@ -36,12 +37,11 @@ pub(crate) struct Behind<R: Returns, F: Fixed, G: Ledger, E: Ledger> {
 }
 
 impl<R: Returns, F: Fixed, G: Ledger, E: Ledger> Model for Behind<R, F, G, E> {
-    ghost use Rattle.manager_state.specs.Managed.{Managed};
     ghost use Rattle.manager.specs.Grows.{IsKept};
 
-    ghost Value = { Managed };
+    ghost Value = { R.Taker };
 
-    ghost view = { λ b. b.desk.state };
+    ghost view = { λ b. b.desk.taker };
 
     ghost invariant = { λ b. IsKept F.limit F.handed F.counts b.totals b.desk.state
         × R.is_taker F.queue b.desk.taker };
@@ -51,6 +51,37 @@ impl<R: Returns, F: Fixed, G: Ledger, E: Ledger> Model for Behind<R, F, G, E> {
 /// of a handle can leave it out.
 #[derive(Drop)]
 pub(crate) struct Settled(());
+
+/// How many passes were drained. Only `Behind::drain` counts one, so that where this count is told, no
+/// pass can be left out.
+#[derive(Debug, Drop)]
+pub struct Drains {
+    passes: u64,
+}
+
+impl Model for Drains {
+    ghost use Rattle.std.specs.Prelude.{ℕ};
+
+    ghost Value = { ℕ };
+
+    ghost view = { λ d. d.passes };
+}
+
+impl Drains {
+    /// No pass was drained.
+    pub fn new() -> Drains
+        ensures { result ≡ 0 }
+    {
+        Drains { passes: 0 }
+    }
+
+    /// How many passes were drained.
+    pub fn passes(&self) -> u64
+        ensures { result ≡ self.now }
+    {
+        self.passes
+    }
+}
 
 /// How many entries a state's book has.
 fn entry_count(state: &State) -> u64
@@ -106,9 +137,13 @@ impl<R: Returns, F: Fixed, G: Ledger, E: Ledger> Behind<R, F, G, E> {
         }
     }
 
-    /// Counts what stands in the queue.
+    /// Counts what stands in the queue, so that all is counted that the passes taken in had seen given.
     pub(crate) fn settle<H: Wait>(&mut self, rt: &H, returns: &R) -> Settled
         requires { F.queue ≡ R.name returns.now }
+        ensures { (R.until self.old ≤ length (R.taken self.old)
+            → AllTaken (R.taken self.old) (R.knows self.old))
+            → R.until self.old ≤ length (R.taken self.old) + R.most returns.now
+            → AllTaken (R.taken self.new) (R.knows self.new) }
     {
         self.desk.settle(rt, returns);
         Settled(())
@@ -124,15 +159,27 @@ impl<R: Returns, F: Fixed, G: Ledger, E: Ledger> Behind<R, F, G, E> {
     ) -> Back
         requires queue { F.queue ≡ R.name returns.now }
         requires pass { R.is_pass F.queue pass }
+        ensures { Starts (R.taken self.new) (notes (R.seen pass)) }
     {
         self.desk.settle_behind(rt, returns, pass, note)
     }
 
-    /// Counts all that stands in the queue.
-    pub(crate) fn drain<H: Wait>(&mut self, rt: &H, returns: &R, pass: R::Pass) -> u64
+    /// Counts all that a pass had seen given, and then all that stands in the queue.
+    pub(crate) fn drain<H: Wait>(
+        &mut self,
+        rt: &H,
+        returns: &R,
+        pass: R::Pass,
+        drains: &mut Drains,
+    ) -> u64
         requires queue { F.queue ≡ R.name returns.now }
         requires pass { R.is_pass F.queue pass }
+        requires few { drains.old + 1 < 2 ^ 64 }
+        ensures empty { InOrder (R.taken self.new) [] (R.knows self.new) }
+        ensures all { Starts (R.taken self.new) (notes (R.seen pass)) }
+        ensures counted { drains.new ≡ drains.old + 1 }
     {
+        drains.passes += 1;
         self.desk.drain(rt, returns, pass)
     }
 

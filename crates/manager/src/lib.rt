@@ -15,6 +15,7 @@ mod shares;
 #[cfg(test)]
 mod tests;
 
+pub use behind::Drains;
 pub use desk::Desk;
 pub use fixed::Fixed;
 pub use handle::Handle;

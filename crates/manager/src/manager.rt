@@ -11,7 +11,7 @@ ghost use Rattle.manager.specs.Brought.{IsBrought};
 ghost use Rattle.manager.specs.Ends.{HasEnded};
 ghost use Rattle.manager.specs.declared.shares.TheConstants.{PARTS};
 
-use crate::behind::Behind;
+use crate::behind::{Behind, Drains};
 use crate::desk::Desk;
 use crate::fixed::Fixed;
 use crate::shares::{Shares, Totals};
@@ -200,7 +200,16 @@ impl<R: Returns, F: Fixed, G: Ledger, E: Ledger> Manager<R, F, G, E> {
     pub fn drain<H: Wait>(&self, rt: &H, pass: R::Pass) -> u64
         requires { R.is_pass F.queue pass }
     {
-        self.behind.lock(rt).drain(rt, &self.returns, pass)
+        self.drain_counted(rt, pass, &mut Drains::new())
+    }
+
+    /// The same, and counts that a pass was drained.
+    pub fn drain_counted<H: Wait>(&self, rt: &H, pass: R::Pass, drains: &mut Drains) -> u64
+        requires pass { R.is_pass F.queue pass }
+        requires few { drains.old + 1 < 2 ^ 64 }
+        ensures { drains.new ≡ drains.old + 1 }
+    {
+        self.behind.lock(rt).drain(rt, &self.returns, pass, drains)
     }
 }
 

@@ -2,7 +2,7 @@ ghost use Rattle.std.specs.Prelude.{◌≡◌, ◌≤◌, true, false};
 ghost use Rattle.return_queue.specs.Name.{no_queue};
 ghost use Rattle.manager.specs.declared.shares.TheConstants.{PARTS};
 
-use crate::{Fixed, Handle, Level, Manager, PARTS, Shares, State};
+use crate::{Drains, Fixed, Handle, Level, Manager, PARTS, Shares, State};
 use block_pool::Block;
 use lru_reduce::Reduced;
 use return_queue::{PlainReturns, Returns, RuledReturns};
@@ -189,10 +189,14 @@ where
         move || -> Handle<'_, R, F, G, E> { work(rt, alloc, one, 1) },
         move || -> Handle<'_, R, F, G, E> { work(rt, alloc, two, 2) },
     );
+    let mut drains = Drains::new();
     let (pass, first) = one.into_parts();
-    manager.drain(rt, pass);
+    manager.drain_counted(rt, pass, &mut drains);
     let (pass, second) = two.into_parts();
-    manager.drain(rt, pass);
+    manager.drain_counted(rt, pass, &mut drains);
+    if drains.passes() != 2 {
+        return None;
+    }
     joined(joined(whole, first)?, second)
 }
 

@@ -104,7 +104,9 @@ where
         state, returns, taker, grants, rounds,
     );
     let (replies, taken) = serve_all(rt, alloc, run, &manager, pass, whole, room)?;
-    let Taken { clients, shares } = taken;
+    let Taken {
+        clients, shares, ..
+    } = taken;
     let mut state = manager.finish_with(shares);
     remove_all(&mut state);
     Ok(Served {

@@ -9,7 +9,7 @@ ghost use Rattle.serve_session.specs.Served.{IsServed};
 ghost use Rattle.serve_run.specs.Working.{AllServed, HasTaken};
 
 use crate::worker::{Desk, Ended};
-use manager::{Fixed, Manager, Shares};
+use manager::{Drains, Fixed, Manager, Shares};
 use reply_block::Layout;
 use return_queue::Returns;
 use serve_session::{Run, ServedClient};
@@ -24,6 +24,8 @@ pub(crate) struct Taken<G: Ledger, E: Ledger> {
     pub(crate) clients: Vec<ServedClient>,
     /// All shares that came back.
     pub(crate) shares: Shares<G, E>,
+    /// The passes that were drained.
+    pub(crate) drains: Drains,
 }
 
 /// Takes the ends of all clients in, in their order: each pass is drained, and each share merged. A
@@ -35,6 +37,7 @@ pub(crate) fn take_all<R, F, G, E, H, C, T>(
     manager: &Manager<R, F, G, E>,
     desks: Vec<Desk<'_, R, F, G, E>>,
     shares: Shares<G, E>,
+    drains: Drains,
 ) -> Result<Taken<G, E>, NoMemory>
 where
     R: Returns + Drop,
@@ -48,13 +51,16 @@ where
     requires parts { shares.parts + run.now.cfg.clients ≤ PARTS }
     requires grants { shares.grants ≡ 0 }
     requires rounds { shares.rounds ≤ MOST_ROUNDS }
+    requires drains { drains ≤ 1 }
     requires served { AllServed (λ e. e.served) (λ desk. desk.ended) run.now desks.items }
-    ensures { IfOk result (λ taken.
+    ensures taken { IfOk result (λ taken.
         HasTaken run.now run.now.cfg.clients shares taken.shares taken.clients.items) }
+    ensures drained { IfOk result (λ taken. taken.drains ≡ drains + run.now.cfg.clients) }
 {
     let mut taken = Taken {
         clients: Vec::new(alloc),
         shares,
+        drains,
     };
     for desk in desks {
         let Desk { ended, .. } = desk;
@@ -83,13 +89,15 @@ where
     requires parts { taken.old.shares.parts < PARTS }
     requires grants { taken.old.shares.grants + MOST_REQUESTS < 2 ^ 64 }
     requires rounds { taken.old.shares.rounds < 2 ^ 64 }
-    ensures { OnOk result ((run : RunValue) (n : ℕ) (start : Tokens)
+    requires drains { taken.old.drains + 1 < 2 ^ 64 }
+    ensures drained { OnOk result (taken.new.drains ≡ taken.old.drains + 1) }
+    ensures taken { OnOk result ((run : RunValue) (n : ℕ) (start : Tokens)
         → HasTaken run n start taken.old.shares taken.old.clients.items
         → IsServed run.cfg (n + 1) run.requests ended.entry.served
         → HasTaken run (n + 1) start taken.new.shares taken.new.clients.items) }
 {
     let (served, pass, share) = ended.into_parts();
-    manager.drain(rt, pass);
+    manager.drain_counted(rt, pass, &mut taken.drains);
     taken.shares.merge(share);
     taken.clients.push(served)?;
     Ok(())

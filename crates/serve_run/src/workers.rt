@@ -12,7 +12,7 @@ use crate::dealing::{count_of, deal, gather};
 use crate::taking::{Taken, take_all};
 use crate::worker::{Desk, work};
 use discard_io::{Clock, Gate};
-use manager::{Fixed, Handle, Manager, Shares};
+use manager::{Drains, Fixed, Handle, Manager, Shares};
 use reply_block::{Frame, Joined, Layout, Room};
 use return_queue::Returns;
 use serve_session::Run;
@@ -25,7 +25,7 @@ use units::NoMemory;
 
 /// Serves all clients at once, each in a worker of its own, beside worker 0, which enforces the limit.
 /// Each reply is written once, to its place in the room. When all have ended, the pass of each is
-/// drained, and last the first pass, and all shares are merged.
+/// drained, and last the first pass (`drained` counts them), and all shares are merged.
 ///
 /// Nothing may fail while places are out: a worker that is out of memory leaves its desk without an
 /// end, which is looked at when all places are joined again.
@@ -61,6 +61,7 @@ where
     ensures taken { IfOk result (λ r. HasTaken run.now run.now.cfg.clients
         (record { parts = PARTS - run.now.cfg.clients; grants = 0; rounds = run.now.cfg.rounds })
         r.1.shares r.1.clients.items) }
+    ensures drained { IfOk result (λ r. r.1.drains ≡ run.now.cfg.clients + 2) }
 {
     let desks = desks_of(alloc, run, manager, &mut first, &mut whole)?;
     let (frame, desks) = dealt(run, room, desks);
@@ -68,10 +69,11 @@ where
     let replies = joined(run, frame, &mut desks);
     let (desks, own) = taken_apart(run, desks)?;
     let (pass, share) = own.into_parts();
-    manager.drain(rt, pass);
+    let mut drains = Drains::new();
+    manager.drain_counted(rt, pass, &mut drains);
     whole.merge(share);
-    let taken = take_all(rt, alloc, run, manager, desks, whole)?;
-    manager.drain(rt, first);
+    let mut taken = take_all(rt, alloc, run, manager, desks, whole, drains)?;
+    manager.drain_counted(rt, first, &mut taken.drains);
     Ok((replies, taken))
 }
 

@@ -3,8 +3,8 @@ use Rattle.serve_session.specs.Served.{IsServed}
 use Rattle.serve_run.proofs.ListsGrow.{taken_more}
 use Rattle.serve_run.proofs.taking.take_one.Goals as goal
 
-pub returns : goal.returns
-returns g c = λ run n start so_far this.
+pub returns-clause-taken : goal.returns-clause-taken
+returns-clause-taken g c = λ run n start so_far this.
     let told = c.into_parts-served.ensures in
     let parts = c.into_parts-served.result in
     let before = c.args.taken.now in

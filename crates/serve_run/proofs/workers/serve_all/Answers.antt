@@ -16,7 +16,7 @@ returns-clause-replies g c = c.joined-replies.ensures.replies c.in_ok-desks-2.en
 pub returns-clause-taken : goal.returns-clause-taken
 returns-clause-taken g c =
     let share : c.into_parts-pass.result.1 ≡ one_part 0 c.args.run.now.cfg.rounds = search rules in
-    taken_from _ _ _ _ _ _ c.in_ok-taken.ensures
+    taken_from _ _ _ _ _ _ c.in_ok-taken.ensures.taken
     (omega (arith, c.merge.ensures.parts, ap (λ (t : Tokens). t.parts) share, c.in_ok-desks.ensures.parts, ap (λ (t : Tokens). t.parts) c.requires.whole))
     (omega (arith, c.merge.ensures.grants, ap (λ (t : Tokens). t.grants) share, c.in_ok-desks.ensures.grants, ap (λ (t : Tokens). t.grants) c.requires.whole))
     (omega (arith, c.merge.ensures.rounds, ap (λ (t : Tokens). t.rounds) share, c.in_ok-desks.ensures.rounds, ap (λ (t : Tokens). t.rounds) c.requires.whole))
