@@ -105,7 +105,9 @@ where
     );
     let (replies, taken) = serve_all(rt, alloc, run, &manager, pass, whole, room)?;
     let Taken {
-        clients, shares, ..
+        clients,
+        shares,
+        ..
     } = taken;
     let mut state = manager.finish_with(shares);
     remove_all(&mut state);

@@ -38,7 +38,7 @@ loop-desk-preserved g c =
     (subst (λ d. IfSome d.ended (λ e. IsServed c.args.run.now.cfg (n + 1) c.args.run.now.requests e.served)) (sym at.1) told) in
     let longer = length_push c.loop-desk.yielded c.in-Some.desk in let before = c.loop-desk.invariant.1 in let one = c.in_ok-take_one.ensures.drained in (
       subst (λ k. HasTaken c.args.run.now k c.args.shares c.take_one.new.taken.shares c.take_one.new.taken.clients.items) (sym longer)
-      (c.in_ok-take_one.ensures.taken c.args.run.now n c.args.shares c.loop-desk.invariant.0 this),
+          (c.in_ok-take_one.ensures.taken c.args.run.now n c.args.shares c.loop-desk.invariant.0 this),
       omega (arith, longer, before, one),
     )
 
@@ -55,7 +55,7 @@ loop-desk-preserved-in_ok-take_one g c =
     (subst (λ d. IfSome d.ended (λ e. IsServed c.args.run.now.cfg (n + 1) c.args.run.now.requests e.served)) (sym at.1) told) in
     let longer = length_push c.loop-desk.yielded c.in-Some.desk in let before = c.loop-desk.invariant.1 in let one = c.in_ok-take_one.ensures.drained in (
       subst (λ k. HasTaken c.args.run.now k c.args.shares c.take_one.new.taken.shares c.take_one.new.taken.clients.items) (sym longer)
-      (c.in_ok-take_one.ensures.taken c.args.run.now n c.args.shares c.loop-desk.invariant.0 this),
+          (c.in_ok-take_one.ensures.taken c.args.run.now n c.args.shares c.loop-desk.invariant.0 this),
       omega (arith, longer, before, one),
     )
 
