@@ -18,6 +18,11 @@ def programs():
     return named
 
 
+def scratch():
+    """Where scratch files go: in memory where the system has such a place, so that no disk is timed, and else where it says."""
+    return "/dev/shm" if os.path.isdir("/dev/shm") else None
+
+
 def spent(command, given, out):
     """The processor time of one run in seconds, with one file as its input and one for its output."""
     streams = [

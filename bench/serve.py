@@ -6,9 +6,9 @@
 A program is by default the built one, crates/discard/out/discard. The C program has a thread a client and an ordinary cache of as
 many entries for each, which never loses a tile; it writes the same bytes. They take turns. For each image, side, mix of requests,
 number of clients and limit the script prints the median of the time by the clock, and the ratio to that of the C program; then the
-speed-up from 1 client to 2 and 4 of both, what a kept tile and a made tile cost beside the C program's, what a request of a tiny
-tile costs beside its copy, how the cost of a request grows with the entries, and the peak memory above file, replies and granted pages. It
-stops where the programs write different bytes. All files lie in a scratch folder that is removed. `--quick` takes fewer turns.
+speed-up from 1 client to 2 and 4 of both, what a kept tile and a made tile cost beside the C program's (whose kept tile is a look-up
+and the copy), how the cost of a request grows with the entries, and the peak memory above file, replies and granted pages. It stops
+where the programs write different bytes. All files lie in a scratch folder in memory that is removed. `--quick` takes fewer turns.
 """
 
 import os
@@ -18,7 +18,7 @@ import sys
 import tempfile
 import time
 
-from measure import Spread, compiled, peak, programs
+from measure import Spread, compiled, peak, programs, scratch
 
 PLAIN = r"""
 #include <pthread.h>
@@ -273,7 +273,7 @@ def main():
         sys.argv.remove("--quick")
     named = programs()
     turns = 3 if quick else 9
-    with tempfile.TemporaryDirectory(prefix="serve-bench-") as folder:
+    with tempfile.TemporaryDirectory(prefix="serve-bench-", dir=scratch()) as folder:
         plain = compiled(folder, "plain", PLAIN, "-pthread")
         every = [*named, plain]
         for width, height in IMAGES:
@@ -320,7 +320,8 @@ def requests_alone(folder, named, plain, turns):
         for what in ("kept", "made"):
             for program in named:
                 own, other = costs[what, program], costs[what, plain]
-                print(f"  side {side}, a {what} tile: {own * 1e6:.2f} µs, {own / other:.2f} of C's {other * 1e6:.2f} µs")
+                more = (own - other) * 1e6
+                print(f"  side {side}, a {what} tile: {own * 1e6:.2f} µs, {own / other:.2f} of C's {other * 1e6:.2f} µs, {more:+.2f} µs")
     for entries in (16, 4096):
         tiles = different(8192, 64, 16) * 256
         run = Run(folder, f"{entries} entries", image, tiles, 64, 1, entries, 1048576)
