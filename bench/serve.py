@@ -8,7 +8,8 @@ many entries for each, which never loses a tile; it writes the same bytes. They 
 number of clients and limit the script prints the median of the time by the clock, and the ratio to that of the C program; then the
 speed-up from 1 client to 2 and 4 of both, what a kept tile and a made tile cost beside the C program's (whose kept tile is a look-up
 and the copy), how the cost of a request grows with the entries, and the peak memory above file, replies and granted pages. It stops
-where the programs write different bytes. All files lie in a scratch folder in memory that is removed. `--quick` takes fewer turns.
+where the programs write different bytes. All files lie in a scratch folder that is removed, in memory where that can be. `--quick`
+takes fewer turns.
 """
 
 import os
