@@ -14,14 +14,14 @@ use Rattle.span_heap.specs.declared.run.Run.{Run}
 use Rattle.span_heap.specs.Runs.{rest_of}
 use Rattle.span_heap.specs.Segment.{Segment}
 use Rattle.span_heap.specs.Heap.{Contents, IsPartition, has_segment, has_id, size_of}
-use Rattle.span_heap.specs.Changes.{whole_of}
-use Rattle.client.specs.Coming.{IsFrontLocked, GrowsFront}
+use Rattle.span_heap.specs.Changes.{whole_of, GrowsFront}
+use Rattle.client.specs.Coming.{IsFrontLocked}
 use Rattle.client.specs.Gone.{has_side, is_side, kept_side, after_next}
 use Rattle.client.specs.Lease.{Lease, IsLease, pages_at}
 use Rattle.client.specs.Seen.{Seen, is_gone, known, numbers_of, segment_of, IsUnknown}
 use Rattle.client.specs.Pieces.{Part, Owns, AllStay, IsNew, content_at}
 use Rattle.client.specs.Finding.{Adopts, part_of}
-use Rattle.client.specs.Kept.{IsSound, IsKept, LockedAreUsed}
+use Rattle.client.specs.Sound.{IsSoundSeen, IsSoundClient, LockedAreUsed}
 use Rattle.client.proofs.Fitting.{fits_front}
 use Rattle.client.proofs.Rows.{not_there, pushed_keeps, pushed_last, counted_nowhere, sum_by-map}
 use Rattle.client.proofs.Pages.{covers, has_within, within_range, apart_segments}
@@ -82,8 +82,8 @@ one_more n id k few fresh =
     ]
 
 -- a side is kept: the client is
-pub kept_kept : (seen : Seen) (side : Owned) (gone : List Owned) (told pages room room' : ℕ) → IsKept seen pages room → IsUnknown side.id seen → 1 ≤ seen.taken → gone ≡ kept_side side seen.told seen.gone → told ≡ seen.told + 1 → room' + 1 ≡ room
-    → IsKept (record seen { gone = gone; told = told; taken = seen.taken - 1 }) pages room'
+pub kept_kept : (seen : Seen) (side : Owned) (gone : List Owned) (told pages room room' : ℕ) → IsSoundClient seen pages room → IsUnknown side.id seen → 1 ≤ seen.taken → gone ≡ kept_side side seen.told seen.gone → told ≡ seen.told + 1 → room' + 1 ≡ room
+    → IsSoundClient (record seen { gone = gone; told = told; taken = seen.taken - 1 }) pages room'
 kept_kept seen side gone told pages room room' kept unknown some gone_is told_is less =
     let sound = kept.sound in
     record {
@@ -117,9 +117,9 @@ both' : (b : Bool) → b ≡ true → b ≡ false → ⊥
 both' b e f = cc
 
 -- A segment came: the client is kept.
-pub kept_adopted : (seen : Seen) (heap : Contents) (side : Owned) (locks : List Bool) (leases : List Lease) (span : Run) (whole pages all room room' : ℕ) → IsKept seen all room → side.phase ≡ phase.Held → side.pages ≡ whole → IsUnknown side.id seen → 1 ≤ pages → pages ≤ whole
+pub kept_adopted : (seen : Seen) (heap : Contents) (side : Owned) (locks : List Bool) (leases : List Lease) (span : Run) (whole pages all room room' : ℕ) → IsSoundClient seen all room → side.phase ≡ phase.Held → side.pages ≡ whole → IsUnknown side.id seen → 1 ≤ pages → pages ≤ whole
     → IsFrontLocked whole pages locks → GrowsFront seen.heap heap side.id whole pages span → IsPartition heap → leases ≡ seen.leases ++ record { side = side; locks = locks } ∷ [] → length seen.leases + 1 ≤ room' → room' < 2 ^ 64 → size_of seen.heap.segments + whole < 2 ^ 32
-    → IsKept (record seen { leases = leases; heap = heap; taken = 0 }) (all + whole) room'
+    → IsSoundClient (record seen { leases = leases; heap = heap; taken = 0 }) (all + whole) room'
 kept_adopted seen heap side locks leases span whole pages all room room' kept held size unknown some less front grows partition leases_is roomy full small =
     let sound = kept.sound in
     let lease : Lease = record { side = side; locks = locks } in
@@ -240,7 +240,7 @@ pub same_seen : (number standard told told' taken : ℕ) (leases leases' : List 
 same_seen number standard told told' taken leases leases' heap gone gone' e f g = rw (e, f, g) refl
 
 -- the heap has no segment of a number that is not known
-pub not_in_heap : (seen : Seen) (id : ℕ) → IsSound seen → IsUnknown id seen → has_segment seen.heap.segments id ≡ false
+pub not_in_heap : (seen : Seen) (id : ℕ) → IsSoundSeen seen → IsUnknown id seen → has_segment seen.heap.segments id ≡ false
 not_in_heap seen id sound unknown =
     let absent = (or_parts (list_any (λ n. n == id) (numbers_of seen.leases)) (list_any (λ n. n == id) (map (λ (s : Owned). s.id) seen.gone)) (sym (list_any-append (λ n. n == id) (numbers_of seen.leases) (map (λ (s : Owned). s.id) seen.gone)) ∙ unknown)).0 in
     rw sound.segments (has_mapped seen.leases ∙ absent)
@@ -250,7 +250,7 @@ not_in_heap seen id sound unknown =
     has_mapped (l ∷ leases) = ap (λ more. has_id id (segment_of l) || more) (has_mapped leases)
 
 -- one more side is told: the client is kept
-pub kept_told : (seen : Seen) (gone : List Owned) (told pages room room' : ℕ) → IsKept seen pages room → gone ≡ seen.gone → told ≡ after_next seen.gone seen.told → room' ≡ room → IsKept (record seen { gone = gone; told = told }) pages room'
+pub kept_told : (seen : Seen) (gone : List Owned) (told pages room room' : ℕ) → IsSoundClient seen pages room → gone ≡ seen.gone → told ≡ after_next seen.gone seen.told → room' ≡ room → IsSoundClient (record seen { gone = gone; told = told }) pages room'
 kept_told seen gone told pages room room' kept gone_is told_is same =
     let sound = kept.sound in
     rw (gone_is, told_is, same) (record {

@@ -19,7 +19,7 @@ use Rattle.span_heap.specs.Heap.{Contents, IsPartition, has_id, size_of}
 use Rattle.span_heap.specs.Changes.{Uses, Frees, Drops}
 use Rattle.client.specs.Lease.{Lease, IsLease}
 use Rattle.client.specs.Seen.{Seen, known, numbers_of, segment_of}
-use Rattle.client.specs.Kept.{IsSound, LockedAreUsed}
+use Rattle.client.specs.Sound.{IsSoundSeen, LockedAreUsed}
 use Rattle.client.proofs.Rows.{counted_at, one_place, All-at, All-remove, removed_from, pushed_keeps, sum_by-map}
 use Rattle.client.proofs.Pages.{used_more, used_less, dropped_covers}
 
@@ -28,7 +28,7 @@ abbrev pub is_id : ℕ → ℕ → ℕ
 is_id id n = cond {A = ℕ} (n == id) 1 0
 
 -- A search: a span came, and no segment changed.
-pub sound_used : (seen : Seen) (heap : Contents) (span : Run) → IsSound seen → Uses seen.heap heap span → IsPartition heap → IsSound (record seen { heap = heap })
+pub sound_used : (seen : Seen) (heap : Contents) (span : Run) → IsSoundSeen seen → Uses seen.heap heap span → IsPartition heap → IsSoundSeen (record seen { heap = heap })
 sound_used seen heap span sound uses partition =
     record {
       numbered = sound.numbered;
@@ -43,8 +43,8 @@ sound_used seen heap span sound uses partition =
     }
 
 -- A free: a span whose pages are free left.
-pub sound_freed : (seen : Seen) (heap : Contents) (span : Run) → IsSound seen → Frees seen.heap heap span → IsPartition heap
-    → All (λ (lease : Lease). span.segment ≡ lease.side.id → IsRange false lease.locks span.first span.pages) seen.leases → IsSound (record seen { heap = heap })
+pub sound_freed : (seen : Seen) (heap : Contents) (span : Run) → IsSoundSeen seen → Frees seen.heap heap span → IsPartition heap
+    → All (λ (lease : Lease). span.segment ≡ lease.side.id → IsRange false lease.locks span.first span.pages) seen.leases → IsSoundSeen (record seen { heap = heap })
 sound_freed seen heap span sound frees partition free =
     record {
       numbered = sound.numbered;
@@ -76,7 +76,7 @@ segments_set leases p old new at same pages =
     map-set_same segment_of leases p new old (here ∙ ap segment_of (sym (get_or_from_slice_get leases p old old at)))
 
 -- A segment turned: pages were locked or unlocked, or it was looked at and is there.
-pub sound_turned : (seen : Seen) (p : ℕ) (old new : Lease) → IsSound seen → slice_get seen.leases p ≡ Some old → Follows seen old new → new.side.phase ≢ Gone → IsSound (record seen { leases = set seen.leases p new })
+pub sound_turned : (seen : Seen) (p : ℕ) (old new : Lease) → IsSoundSeen seen → slice_get seen.leases p ≡ Some old → Follows seen old new → new.side.phase ≢ Gone → IsSoundSeen (record seen { leases = set seen.leases p new })
 sound_turned seen p old new sound at follows live =
     record {
       numbered = sound.numbered;
@@ -151,7 +151,7 @@ locked_elsewhere old new id lease left other kept page locked =
     omega (arith, kept page locked, dropped_covers old id lease.side.id page other, sum_by-IsPermutation (λ r. cond {A = ℕ} (has_page lease.side.id page r) 1 0) (dropped old id) new left)
 
 -- each segment that stays has another number than the one that left
-pub others_differ : (seen : Seen) (p q : ℕ) (lease other : Lease) → IsSound seen → slice_get seen.leases p ≡ Some lease → slice_get seen.leases q ≡ Some other → q ≢ p → other.side.id ≢ lease.side.id
+pub others_differ : (seen : Seen) (p q : ℕ) (lease other : Lease) → IsSoundSeen seen → slice_get seen.leases p ≡ Some lease → slice_get seen.leases q ≡ Some other → q ≢ p → other.side.id ≢ lease.side.id
 others_differ seen p q lease other sound at bt apart same =
     let numbers = known seen.leases seen.gone in
     let ids : Lease → ℕ = λ l. l.side.id in
@@ -160,13 +160,13 @@ others_differ seen p q lease other sound at bt apart same =
     apart (one_place (λ n. n == lease.side.id) numbers q p other.side.id lease.side.id there here (eq-eqb other.side.id lease.side.id same) (eq-eqb lease.side.id lease.side.id refl) (sound.once lease.side.id))
 
 -- one number of a segment is counted at most once
-pub few_numbers : (seen : Seen) (id : ℕ) → IsSound seen → count_by (λ n. n == id) (numbers_of seen.leases) ≤ 1
+pub few_numbers : (seen : Seen) (id : ℕ) → IsSoundSeen seen → count_by (λ n. n == id) (numbers_of seen.leases) ≤ 1
 few_numbers seen id sound = omega (arith, sound.once id, known_sum seen.leases seen.gone id)
 
 -- A segment left.
-pub sound_left : (seen : Seen) (heap : Contents) (gone : List Owned) (told taken p : ℕ) (lease : Lease) → IsSound seen → slice_get seen.leases p ≡ Some lease → Drops seen.heap heap lease.side.id → IsPartition heap
+pub sound_left : (seen : Seen) (heap : Contents) (gone : List Owned) (told taken p : ℕ) (lease : Lease) → IsSoundSeen seen → slice_get seen.leases p ≡ Some lease → Drops seen.heap heap lease.side.id → IsPartition heap
     → told ≤ length gone → ((id : ℕ) → count_by (λ n. n == id) (map (λ (side : Owned). side.id) gone) ≤ count_by (λ n. n == id) (map (λ (side : Owned). side.id) seen.gone) + is_id id lease.side.id)
-    → IsSound (record seen { leases = remove seen.leases p; heap = heap; gone = gone; told = told; taken = taken })
+    → IsSoundSeen (record seen { leases = remove seen.leases p; heap = heap; gone = gone; told = told; taken = taken })
 sound_left seen heap gone told taken p lease sound at drops partition within_told more =
     let inside = slice_get_within seen.leases p lease at in
     record {

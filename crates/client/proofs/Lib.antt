@@ -10,7 +10,6 @@ pub mod PieceCalls
 pub mod Searching
 pub mod Sweeping
 pub mod ComingAndKept
-pub mod FrontGrows
 pub mod Debts
 pub mod Writing
 pub mod GivingBack

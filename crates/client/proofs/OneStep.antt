@@ -26,7 +26,7 @@ use Rattle.client.specs.Seen.{Seen, known, numbers_of, segment_of, IsUnknown}
 use Rattle.client.specs.Places.{IsThere}
 use Rattle.client.specs.Pieces.{Part, IsUsed, IsLive, AllStay, AreApart, FitsIn, LocksSo, UnlocksSo, IsFresh}
 use Rattle.client.specs.Calls.{Turns, Loses, LocksRun, UnlocksRun, LooksInto, TakesOut}
-use Rattle.client.specs.Kept.{IsSound, IsKept, LockedAreUsed}
+use Rattle.client.specs.Sound.{IsSoundSeen, IsSoundClient, LockedAreUsed}
 use Rattle.client.specs.declared.answers.Unlocked.{Unlocked}
 use Rattle.client.proofs.Rows.{cases_same, All-at, set_here, sum_by-map, counted_at, not_counted}
 use Rattle.client.proofs.Pages.{set_range, other_range, locked_used, unlocked_used, apart_or_same, used_once, lies_from, came_free, apart_from_old, apart_segments}
@@ -41,19 +41,19 @@ lease_there leases place id lease there is =
     (at, ap (λ (l : Lease). l.side.id) (same_Some lease there.0 (sym at ∙ there.1)) ∙ there.2)
 
 -- the segment of a used span is the one at its place
-pub same_lease : (seen : Seen) (run : Run) (b : Bool) (p : ℕ) (lease : Lease) → IsSound seen → (used : IsUsed seen run b) → slice_get seen.leases p ≡ Some lease → lease.side.id ≡ run.segment → used.stands.lease ≡ lease
+pub same_lease : (seen : Seen) (run : Run) (b : Bool) (p : ℕ) (lease : Lease) → IsSoundSeen seen → (used : IsUsed seen run b) → slice_get seen.leases p ≡ Some lease → lease.side.id ≡ run.segment → used.stands.lease ≡ lease
 same_lease seen run b p lease sound used at number =
     elim (cases_same used.stands.place p) [
       | inl here ↦ same_Some used.stands.lease lease (sym used.stands.stands ∙ (ap (slice_get seen.leases) here ∙ at))
       | inr apart ↦ absurd (others_differ seen p used.stands.place lease used.stands.lease sound at used.stands.stands apart (used.stands.number ∙ sym number))
     ]
 
-pub range_here : (seen : Seen) (run : Run) (b : Bool) (p : ℕ) (lease : Lease) → IsSound seen → IsUsed seen run b → slice_get seen.leases p ≡ Some lease → lease.side.id ≡ run.segment → IsRange b lease.locks run.first run.pages
+pub range_here : (seen : Seen) (run : Run) (b : Bool) (p : ℕ) (lease : Lease) → IsSoundSeen seen → IsUsed seen run b → slice_get seen.leases p ≡ Some lease → lease.side.id ≡ run.segment → IsRange b lease.locks run.first run.pages
 range_here seen run b p lease sound used at number =
     subst (λ (l : Lease). IsRange b l.locks run.first run.pages) (same_lease seen run b p lease sound used at number) used.pages
 
 -- the heap has each segment of the client
-pub has_each : (seen : Seen) (p : ℕ) (lease : Lease) → IsSound seen → slice_get seen.leases p ≡ Some lease → has_segment seen.heap.segments lease.side.id ≡ true
+pub has_each : (seen : Seen) (p : ℕ) (lease : Lease) → IsSoundSeen seen → slice_get seen.leases p ≡ Some lease → has_segment seen.heap.segments lease.side.id ≡ true
 has_each seen p lease sound at =
     rw sound.segments (has_mapped seen.leases p lease at)
   where
@@ -67,7 +67,7 @@ has_each seen p lease sound at =
     has_mapped (l ∷ leases) (suc p) lease at = or_right (has_id lease.side.id (segment_of l)) (list_any (has_id lease.side.id) (map segment_of leases)) (has_mapped leases p lease at)
 
 -- the pages of a segment are among those of all
-pub pages_fit : (seen : Seen) (pages room p : ℕ) (lease : Lease) → IsKept seen pages room → slice_get seen.leases p ≡ Some lease → lease.side.pages ≤ pages
+pub pages_fit : (seen : Seen) (pages room p : ℕ) (lease : Lease) → IsSoundClient seen pages room → slice_get seen.leases p ≡ Some lease → lease.side.pages ≤ pages
 pages_fit seen pages room p lease kept at =
     let f : Lease → ℕ = λ l. l.side.pages in
     let here : f (get_or seen.leases p lease) ≡ lease.side.pages = ap f (get_or_from_slice_get seen.leases p lease lease at) in
@@ -75,7 +75,7 @@ pages_fit seen pages room p lease kept at =
     omega (arith, here, all, kept.counted, sum_by-remove f seen.leases p lease (slice_get_within seen.leases p lease at))
 
 -- a segment of the client is not known to be gone
-pub not_gone : (seen : Seen) (p : ℕ) (lease : Lease) → IsSound seen → slice_get seen.leases p ≡ Some lease → has_side seen.gone lease.side.id ≡ false
+pub not_gone : (seen : Seen) (p : ℕ) (lease : Lease) → IsSoundSeen seen → slice_get seen.leases p ≡ Some lease → has_side seen.gone lease.side.id ≡ false
 not_gone seen p lease sound at =
     elim (cases_Bool (has_side seen.gone lease.side.id)) [
       | inr absent ↦ absent
@@ -92,7 +92,7 @@ not_gone seen p lease sound at =
         omega (arith, sum, counted_at (is_side id) gone k side (slice_get_read gone (length gone) k side refl within (sym is)) passes)
 
 -- A segment turned: the client is kept.
-pub kept_turned : (seen : Seen) (pages room p : ℕ) (old new : Lease) → IsKept seen pages room → slice_get seen.leases p ≡ Some old → Follows seen old new → new.side.phase ≢ phase.Gone → IsKept (record seen { leases = set seen.leases p new }) pages room
+pub kept_turned : (seen : Seen) (pages room p : ℕ) (old new : Lease) → IsSoundClient seen pages room → slice_get seen.leases p ≡ Some old → Follows seen old new → new.side.phase ≢ phase.Gone → IsSoundClient (record seen { leases = set seen.leases p new }) pages room
 kept_turned seen pages room p old new kept at follows live =
     record {
       sound = sound_turned seen p old new kept.sound at follows live;
@@ -103,7 +103,7 @@ kept_turned seen pages room p old new kept at follows live =
     }
 
 -- the segments' pages without one
-pages_left : (seen : Seen) (pages room p : ℕ) (lease : Lease) (segments : List Segment) → IsKept seen pages room → slice_get seen.leases p ≡ Some lease → segments ≡ map segment_of (remove seen.leases p) → pages - lease.side.pages ≡ size_of segments
+pages_left : (seen : Seen) (pages room p : ℕ) (lease : Lease) (segments : List Segment) → IsSoundClient seen pages room → slice_get seen.leases p ≡ Some lease → segments ≡ map segment_of (remove seen.leases p) → pages - lease.side.pages ≡ size_of segments
 pages_left seen pages room p lease segments kept at is =
     let f : Lease → ℕ = λ l. l.side.pages in
     let here : f (get_or seen.leases p lease) ≡ lease.side.pages = ap f (get_or_from_slice_get seen.leases p lease lease at) in
@@ -112,9 +112,9 @@ pages_left seen pages room p lease segments kept at is =
     omega (arith, here, all, left, kept.counted, sum_by-remove f seen.leases p lease (slice_get_within seen.leases p lease at))
 
 -- A segment was found gone: the client is kept.
-pub kept_lost : (seen : Seen) (leases : List Lease) (heap : Contents) (gone : List Owned) (told pages room room' p : ℕ) (lease : Lease) (side : Owned) → IsKept seen pages room → slice_get seen.leases p ≡ Some lease → side.id ≡ lease.side.id → side.pages ≡ lease.side.pages
+pub kept_lost : (seen : Seen) (leases : List Lease) (heap : Contents) (gone : List Owned) (told pages room room' p : ℕ) (lease : Lease) (side : Owned) → IsSoundClient seen pages room → slice_get seen.leases p ≡ Some lease → side.id ≡ lease.side.id → side.pages ≡ lease.side.pages
     → leases ≡ remove seen.leases p → Drops seen.heap heap side.id → IsPartition heap → gone ≡ seen.gone ++ side ∷ [] → told ≡ seen.told → room' + 1 ≡ room
-    → IsKept (record seen { leases = leases; heap = heap; gone = gone; told = told }) (pages - side.pages) room'
+    → IsSoundClient (record seen { leases = leases; heap = heap; gone = gone; told = told }) (pages - side.pages) room'
 kept_lost seen leases heap gone told pages room room' p lease side kept at number size leases_is drops partition gone_is told_is less =
     let within_told : told ≤ length gone = rw (gone_is, told_is) (omega (arith, kept.sound.told, length-append seen.gone (side ∷ []))) in
     let inside = slice_get_within seen.leases p lease at in
@@ -125,7 +125,7 @@ kept_lost seen leases heap gone told pages room room' p lease side kept at numbe
     let one : is_id id side.id ≡ is_id id lease.side.id = ap (is_id id) number in
     rw gone_is (omega (arith, pushed, before, one, sum_by_push (λ (s : Owned). is_id id s.id) seen.gone side)) in
     let sound = sound_left seen heap gone seen.told seen.taken p lease kept.sound at drops' partition (rw gone_is (omega (arith, kept.sound.told, length-append seen.gone (side ∷ [])))) more in
-    let sound' : IsSound (record seen { leases = leases; heap = heap; gone = gone; told = told }) = rw leases_is (record {
+    let sound' : IsSoundSeen (record seen { leases = leases; heap = heap; gone = gone; told = told }) = rw leases_is (record {
       numbered = sound.numbered;
       sized = sound.sized;
       segments = sound.segments;
@@ -145,7 +145,7 @@ kept_lost seen leases heap gone told pages room room' p lease side kept at numbe
     }
 
 -- A lock of some free pages that was held.
-pub lock_held : (old new : Seen) (run : Run) (p : ℕ) (lease turned : Lease) → IsSound old → IsUsed old run false → slice_get old.leases p ≡ Some lease → lease.side.id ≡ run.segment → LocksPages run.first run.pages Held lease turned → Turns p turned old new
+pub lock_held : (old new : Seen) (run : Run) (p : ℕ) (lease turned : Lease) → IsSoundSeen old → IsUsed old run false → slice_get old.leases p ≡ Some lease → lease.side.id ≡ run.segment → LocksPages run.first run.pages Held lease turned → Turns p turned old new
     → LocksRun run Held old new × LocksSo Held run old new
 lock_held old new run p lease turned sound used at number locks turns =
     let range = range_here old run false p lease sound used at number in
@@ -179,7 +179,7 @@ lock_held old new run p lease turned sound used at number locks turns =
         ]
 
 -- A lock of some free pages that found the segment gone.
-pub lock_gone : (old new : Seen) (run : Run) (p : ℕ) (lease turned : Lease) → IsSound old → slice_get old.leases p ≡ Some lease → lease.side.id ≡ run.segment → LocksPages run.first run.pages Gone lease turned → Loses p turned.side old new
+pub lock_gone : (old new : Seen) (run : Run) (p : ℕ) (lease turned : Lease) → IsSoundSeen old → slice_get old.leases p ≡ Some lease → lease.side.id ≡ run.segment → LocksPages run.first run.pages Gone lease turned → Loses p turned.side old new
     → LocksRun run Gone old new × LocksSo Gone run old new
 lock_gone old new run p lease turned sound at number locks loses =
     let found = found_gone run.first run.pages lease turned locks in
@@ -198,7 +198,7 @@ lock_gone old new run p lease turned sound at number locks loses =
     gone_is_not_held e = cc
 
 -- an unlock
-pub unlock_so : (old new : Seen) (run : Run) (now : ℕ) (told : Unlocked) (p : ℕ) (lease turned : Lease) → IsSound old → IsUsed old run true → slice_get old.leases p ≡ Some lease → lease.side.id ≡ run.segment → UnlocksPages run.first run.pages now told lease turned → Turns p turned old new
+pub unlock_so : (old new : Seen) (run : Run) (now : ℕ) (told : Unlocked) (p : ℕ) (lease turned : Lease) → IsSoundSeen old → IsUsed old run true → slice_get old.leases p ≡ Some lease → lease.side.id ≡ run.segment → UnlocksPages run.first run.pages now told lease turned → Turns p turned old new
     → UnlocksRun run now told old new × UnlocksSo run old new
 unlock_so old new run now told p lease turned sound used at number unlocks turns =
     let range = range_here old run true p lease sound used at number in
@@ -226,7 +226,7 @@ unlock_so old new run now told p lease turned sound used at number unlocks turns
         ]
 
 -- what follows a lock that was held
-pub follows_locked : (seen : Seen) (run : Run) (p : ℕ) (lease turned : Lease) → IsSound seen → IsUsed seen run false → slice_get seen.leases p ≡ Some lease → lease.side.id ≡ run.segment → LocksPages run.first run.pages Held lease turned → IsLease turned
+pub follows_locked : (seen : Seen) (run : Run) (p : ℕ) (lease turned : Lease) → IsSoundSeen seen → IsUsed seen run false → slice_get seen.leases p ≡ Some lease → lease.side.id ≡ run.segment → LocksPages run.first run.pages Held lease turned → IsLease turned
     → Follows seen lease turned × (turned.side.phase ≢ phase.Gone)
 follows_locked seen run p lease turned sound used at number locks is =
     let range = range_here seen run false p lease sound used at number in
@@ -241,7 +241,7 @@ follows_locked seen run p lease turned sound used at number locks is =
     )
 
 -- what follows an unlock
-pub follows_unlocked : (seen : Seen) (run : Run) (now : ℕ) (told : Unlocked) (p : ℕ) (lease turned : Lease) → IsSound seen → IsUsed seen run true → slice_get seen.leases p ≡ Some lease → lease.side.id ≡ run.segment → UnlocksPages run.first run.pages now told lease turned → IsLease turned
+pub follows_unlocked : (seen : Seen) (run : Run) (now : ℕ) (told : Unlocked) (p : ℕ) (lease turned : Lease) → IsSoundSeen seen → IsUsed seen run true → slice_get seen.leases p ≡ Some lease → lease.side.id ≡ run.segment → UnlocksPages run.first run.pages now told lease turned → IsLease turned
     → Follows seen lease turned × (turned.side.phase ≢ phase.Gone)
 follows_unlocked seen run now told p lease turned sound used at number unlocks is =
     let range = range_here seen run true p lease sound used at number in
@@ -256,7 +256,7 @@ follows_unlocked seen run now told p lease turned sound used at number unlocks i
     )
 
 -- what follows a look at a segment that is there
-pub follows_looked : (seen : Seen) (p : ℕ) (lease turned : Lease) → IsSound seen → slice_get seen.leases p ≡ Some lease → LooksAt true lease turned → IsLease turned → Follows seen lease turned × (turned.side.phase ≢ phase.Gone)
+pub follows_looked : (seen : Seen) (p : ℕ) (lease turned : Lease) → IsSoundSeen seen → slice_get seen.leases p ≡ Some lease → LooksAt true lease turned → IsLease turned → Follows seen lease turned × (turned.side.phase ≢ phase.Gone)
 follows_looked seen p lease turned sound at looks is =
     let so = looked_so true lease turned looks in (
       record {
@@ -277,7 +277,7 @@ look_there old new p lease turned at looks turns =
     )
 
 -- a look that found the segment gone
-pub look_gone : (old new : Seen) (p : ℕ) (lease turned : Lease) → IsSound old → slice_get old.leases p ≡ Some lease → LooksAt false lease turned → Loses p turned.side old new → LooksInto p false old new × AllStay old new
+pub look_gone : (old new : Seen) (p : ℕ) (lease turned : Lease) → IsSoundSeen old → slice_get old.leases p ≡ Some lease → LooksAt false lease turned → Loses p turned.side old new → LooksInto p false old new × AllStay old new
 look_gone old new p lease turned sound at looks loses =
     let so = looked_so false lease turned looks in
     let is = All-at IsLease old.leases p lease sound.leases at in (
@@ -289,7 +289,7 @@ look_gone old new p lease turned sound at looks loses =
     none_locked lease is free = elim (cases_same (locked_pages lease) 0) [ inl none ↦ none | inr some ↦ absurd (free (is.held (omega (arith, some)))) ]
 
 -- A search: the client is kept.
-pub kept_used : (seen : Seen) (heap : Contents) (span : Run) (pages room : ℕ) → IsKept seen pages room → Uses seen.heap heap span → IsPartition heap → IsKept (record seen { heap = heap }) pages room
+pub kept_used : (seen : Seen) (heap : Contents) (span : Run) (pages room : ℕ) → IsSoundClient seen pages room → Uses seen.heap heap span → IsPartition heap → IsSoundClient (record seen { heap = heap }) pages room
 kept_used seen heap span pages room kept uses partition =
     record {
       sound = sound_used seen heap span kept.sound uses partition;
@@ -300,7 +300,7 @@ kept_used seen heap span pages room kept uses partition =
     }
 
 -- a used span lies within its segment, which is the only one of its number
-pub fits_used : (seen : Seen) (run : Run) (locked : Bool) → IsSound seen → IsUsed seen run locked → FitsIn seen run
+pub fits_used : (seen : Seen) (run : Run) (locked : Bool) → IsSoundSeen seen → IsUsed seen run locked → FitsIn seen run
 fits_used seen run locked sound used =
     record {
       leases = λ k d within number.
@@ -312,7 +312,7 @@ fits_used seen run locked sound used =
     }
 
 -- a search found a span: its pages are free, and no piece has one of them
-pub fresh_span : (seen : Seen) (heap : Contents) (span : Run) → IsSound seen → Uses seen.heap heap span → IsPartition heap → IsFresh span seen (record seen { heap = heap })
+pub fresh_span : (seen : Seen) (heap : Contents) (span : Run) → IsSoundSeen seen → Uses seen.heap heap span → IsPartition heap → IsFresh span seen (record seen { heap = heap })
 fresh_span seen heap span sound uses partition =
     let lies = lies_from heap.segments seen.leases span (uses.segments ∙ sound.segments) (All-contains (LiesWithin heap.segments) heap.used span partition.used_within uses.has) in
     let kept = All-at (LockedAreUsed seen.heap.used) seen.leases lies.place lies.lease sound.locked lies.stands in
@@ -335,7 +335,7 @@ fresh_span seen heap span sound uses partition =
     two b e f = cc
 
 -- A free: the client is kept.
-pub kept_freed : (seen : Seen) (heap : Contents) (span : Run) (pages room : ℕ) → IsKept seen pages room → IsUsed seen span false → Frees seen.heap heap span → IsPartition heap → IsKept (record seen { heap = heap }) pages room
+pub kept_freed : (seen : Seen) (heap : Contents) (span : Run) (pages room : ℕ) → IsSoundClient seen pages room → IsUsed seen span false → Frees seen.heap heap span → IsPartition heap → IsSoundClient (record seen { heap = heap }) pages room
 kept_freed seen heap span pages room kept used frees partition =
     record {
       sound = sound_freed seen heap span kept.sound frees partition (λ k d within number.
@@ -347,8 +347,8 @@ kept_freed seen heap span pages room kept used frees partition =
     }
 
 -- A segment was taken out: the client is kept.
-pub kept_taken : (seen : Seen) (leases : List Lease) (heap : Contents) (pages room p : ℕ) (lease : Lease) (side : Owned) → IsKept seen pages room → slice_get seen.leases p ≡ Some lease → side ≡ lease.side
-    → leases ≡ remove seen.leases p → Drops seen.heap heap side.id → IsPartition heap → IsKept (record seen { leases = leases; heap = heap; taken = seen.taken + 1 }) (pages - side.pages) room
+pub kept_taken : (seen : Seen) (leases : List Lease) (heap : Contents) (pages room p : ℕ) (lease : Lease) (side : Owned) → IsSoundClient seen pages room → slice_get seen.leases p ≡ Some lease → side ≡ lease.side
+    → leases ≡ remove seen.leases p → Drops seen.heap heap side.id → IsPartition heap → IsSoundClient (record seen { leases = leases; heap = heap; taken = seen.taken + 1 }) (pages - side.pages) room
 kept_taken seen leases heap pages room p lease side kept at side_is leases_is drops partition =
     let inside = slice_get_within seen.leases p lease at in
     let sound = sound_left seen heap seen.gone seen.told (seen.taken + 1) p lease kept.sound at (subst (λ (s : Owned). Drops seen.heap heap s.id) side_is drops) partition kept.sound.told (λ id. omega arith) in
@@ -361,11 +361,11 @@ kept_taken seen leases heap pages room p lease side kept at side_is leases_is dr
     }
 
 -- a span that a search may have found
-pub fresh_found : (seen : Seen) (heap : Contents) (found : Option Run) → IsSound seen → IfSome found (Uses seen.heap heap) → IsPartition heap → IfSome found (λ run. IsFresh run seen (record seen { heap = heap }))
+pub fresh_found : (seen : Seen) (heap : Contents) (found : Option Run) → IsSoundSeen seen → IfSome found (Uses seen.heap heap) → IsPartition heap → IfSome found (λ run. IsFresh run seen (record seen { heap = heap }))
 fresh_found seen heap None sound uses partition = tt
 fresh_found seen heap (Some span) sound uses partition = fresh_span seen heap span sound uses partition
 
-pub kept_found : (seen : Seen) (heap : Contents) (found : Option Run) (pages room : ℕ) → IsKept seen pages room → IfSome found (Uses seen.heap heap) → IfNone found (heap ≡ seen.heap) → IsPartition heap → IsKept (record seen { heap = heap }) pages room
+pub kept_found : (seen : Seen) (heap : Contents) (found : Option Run) (pages room : ℕ) → IsSoundClient seen pages room → IfSome found (Uses seen.heap heap) → IfNone found (heap ≡ seen.heap) → IsPartition heap → IsSoundClient (record seen { heap = heap }) pages room
 kept_found seen heap None pages room kept uses same partition = rw same kept
 kept_found seen heap (Some span) pages room kept uses same partition = kept_used seen heap span pages room kept uses partition
 
@@ -390,7 +390,7 @@ carves_pick seen heap pages found (Some run) is told free uses same =
     used_some (Some span) e uses = subst (Uses seen.heap heap) (same_Some span (front_of run pages) e) uses
 
 -- the number of a segment that was taken out is not known any more
-pub taken_unknown : (old new : Seen) (place : ℕ) (side : Owned) → IsSound old → TakesOut place side old new → IsUnknown side.id new
+pub taken_unknown : (old new : Seen) (place : ℕ) (side : Owned) → IsSoundSeen old → TakesOut place side old new → IsUnknown side.id new
 taken_unknown old new place side sound out =
     let id : side.id ≡ out.lease.side.id = ap (λ (s : Owned). s.id) out.side_is in
     let one : is_id side.id out.lease.side.id ≡ 1 = rw (eq-eqb out.lease.side.id side.id (sym id)) refl in

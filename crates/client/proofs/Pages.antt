@@ -17,7 +17,7 @@ use Rattle.span_heap.specs.Heap.{Contents, IsPartition, LiesWithin, holds_page}
 use Rattle.client.specs.Lease.{Lease}
 use Rattle.client.specs.Seen.{segment_of}
 use Rattle.client.specs.Pieces.{AreApart}
-use Rattle.client.specs.Kept.{LockedAreUsed}
+use Rattle.client.specs.Sound.{LockedAreUsed}
 use Rattle.client.proofs.Rows.{cases_same, counted_at, one_place}
 
 both : (a b : Bool) → a ≡ true → a ≡ false → ⊥

@@ -16,7 +16,7 @@ use Rattle.client.specs.Pieces.{Part, Owns, IsUsed, IsLive, IsDead, AllStay, Oth
 use Rattle.client.specs.Calls.{LocksRun, UnlocksRun, TakesOut}
 use Rattle.page_locks.specs.Locks.{IsRange}
 use Rattle.span_heap.specs.Run.{has_page}
-use Rattle.client.specs.Kept.{IsSound}
+use Rattle.client.specs.Sound.{IsSoundSeen}
 use Rattle.client.specs.declared.answers.Unlocked.{Unlocked}
 use Rattle.client.proofs.PlacesFound.{has_at}
 use Rattle.client.proofs.OneStep.{not_gone, range_here}
@@ -39,7 +39,7 @@ dead_if_absent seen part owns absent =
     ]
 
 -- a piece whose segment is with the client is live
-pub live_if_there : (seen : Seen) (part : Part) (place : ℕ) → IsSound seen → Owns seen part → IsThere place part.run.segment seen.leases → IsLive seen part
+pub live_if_there : (seen : Seen) (part : Part) (place : ℕ) → IsSoundSeen seen → Owns seen part → IsThere place part.run.segment seen.leases → IsLive seen part
 live_if_there seen part place sound owns (lease, at, number) =
     elim owns.there [
       | inl live ↦ live
@@ -128,7 +128,7 @@ stay_beside old between new told run stay fresh so other_run part owns =
     stays_on old between new part stays (so.stay part stays.owned (other_run part owns))
 
 -- each piece stays where a segment with no used span was taken out
-pub stay_all_free : (old new : Seen) (place : ℕ) (id : ℕ) (lease : Lease) → IsSound old → slice_get old.leases place ≡ Some lease → lease.side.id ≡ id → NoneIn id old.heap.used → StayElsewhere id old new → AllStay old new
+pub stay_all_free : (old new : Seen) (place : ℕ) (id : ℕ) (lease : Lease) → IsSoundSeen old → slice_get old.leases place ≡ Some lease → lease.side.id ≡ id → NoneIn id old.heap.used → StayElsewhere id old new → AllStay old new
 stay_all_free old new place id lease sound at number none elsewhere part owns =
     elim (cases_same part.run.segment id) [
       | inr other ↦ elsewhere part owns other
@@ -142,10 +142,10 @@ stay_all_free old new place id lease sound at number none elsewhere part owns =
 pub not_mine : (seen : Seen) (part : Part) → (part.client ≡ seen.number → ⊥) → Owns seen part → ⊥
 not_mine seen part other owns = other owns.mine
 
-pub not_used : (seen : Seen) (part : Part) (place : ℕ) → IsSound seen → IsThere place part.run.segment seen.leases → (Contains seen.heap.used part.run → ⊥) → Owns seen part → ⊥
+pub not_used : (seen : Seen) (part : Part) (place : ℕ) → IsSoundSeen seen → IsThere place part.run.segment seen.leases → (Contains seen.heap.used part.run → ⊥) → Owns seen part → ⊥
 not_used seen part place sound there unused owns = unused (live_if_there seen part place sound owns there).used
 
-pub owned_by_range : (seen : Seen) (part : Part) (place : ℕ) (lease : Lease) → IsSound seen → slice_get seen.leases place ≡ Some lease → lease.side.id ≡ part.run.segment → part.client ≡ seen.number → Contains seen.heap.used part.run → IsRange part.locked lease.locks part.run.first part.run.pages ↔ Owns seen part
+pub owned_by_range : (seen : Seen) (part : Part) (place : ℕ) (lease : Lease) → IsSoundSeen seen → slice_get seen.leases place ≡ Some lease → lease.side.id ≡ part.run.segment → part.client ≡ seen.number → Contains seen.heap.used part.run → IsRange part.locked lease.locks part.run.first part.run.pages ↔ Owns seen part
 owned_by_range seen part place lease sound at number mine used = (
   λ range. record { mine = mine; there = inl (record { used = used; stands = record { place = place; lease = lease; stands = at; number = number }; pages = range }) },
   λ owns. range_here seen part.run part.locked place lease sound (live_if_there seen part place sound owns (lease, at, number)) at number,
@@ -162,7 +162,7 @@ pub locked_not_absent : (seen : Seen) (part : Part) → Owns seen part → has_l
 locked_not_absent seen part owns absent locked = two part.locked locked (dead_if_absent seen part owns absent).free
 
 -- what a locked piece shows
-pub shown : (seen : Seen) (part : Part) (place : ℕ) (lease : Lease) → IsSound seen → IsUsed seen part.run true → slice_get seen.leases place ≡ Some lease → lease.side.id ≡ part.run.segment → pages_at part.run.first part.run.pages lease.side.bytes ≡ bytes_of seen part.run
+pub shown : (seen : Seen) (part : Part) (place : ℕ) (lease : Lease) → IsSoundSeen seen → IsUsed seen part.run true → slice_get seen.leases place ≡ Some lease → lease.side.id ≡ part.run.segment → pages_at part.run.first part.run.pages lease.side.bytes ≡ bytes_of seen part.run
 shown seen part place lease sound used at number =
     let range = range_here seen part.run true place lease sound used at number in
     let locked = range.each part.run.first (omega arith) (let some = range.some in omega (arith, some)) in
@@ -202,7 +202,7 @@ used_one_more seen place lease before at used earlier other less stands none =
     ]
 
 -- the segment that was taken out is the one that was found
-pub taken_is_free : (old new : Seen) (place : ℕ) (side : Owned) → IsSound old → IsFirstFree place old → TakesOut place side old new → StayElsewhere side.id old new → AllStay old new
+pub taken_is_free : (old new : Seen) (place : ℕ) (side : Owned) → IsSoundSeen old → IsFirstFree place old → TakesOut place side old new → StayElsewhere side.id old new → AllStay old new
 taken_is_free old new place side sound first out elsewhere =
     let same : first.lease ≡ out.lease = same_Some first.lease out.lease (sym first.stands ∙ out.stood) in
     let id : first.lease.side.id ≡ side.id = ap (λ (l : Lease). l.side.id) same ∙ ap (λ (s : Owned). s.id) (sym out.side_is) in

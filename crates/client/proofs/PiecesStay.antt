@@ -19,7 +19,7 @@ use Rattle.client.specs.Lease.{Lease, content_of, pages_at}
 use Rattle.client.specs.Seen.{Seen, is_lease, is_gone}
 use Rattle.client.specs.Pieces.{Part, Owns, IsLive, Stays, AllStay, OthersStay, StayElsewhere, content_at, bytes_of}
 use Rattle.client.specs.Calls.{Turns, Leaves, Loses}
-use Rattle.client.specs.Kept.{IsSound}
+use Rattle.client.specs.Sound.{IsSoundSeen}
 use Rattle.client.proofs.Rows.{cases_same, set_here, set_else, removed_keeps, filter_keeps, Contains-at, Contains-cons, Contains-rest}
 use Rattle.client.proofs.Pages.{place_in, locked_some}
 use Rattle.client.proofs.KeptThrough.{others_differ}
@@ -149,7 +149,7 @@ not_locked locks true first count range none =
 not_locked locks false first count range none = refl
 
 -- each piece stays where a segment of which no page is locked was found gone
-pub stay_lost : (old new : Seen) (p : ℕ) (lease : Lease) (side : Owned) → IsSound old → slice_get old.leases p ≡ Some lease → lease.side.id ≡ side.id → locked_count lease.locks ≡ 0 → Loses p side old new → AllStay old new
+pub stay_lost : (old new : Seen) (p : ℕ) (lease : Lease) (side : Owned) → IsSoundSeen old → slice_get old.leases p ≡ Some lease → lease.side.id ≡ side.id → locked_count lease.locks ≡ 0 → Loses p side old new → AllStay old new
 stay_lost old new p lease side sound at number free loses part owns =
     let more : (other : ℕ) → has_side old.gone other ≡ true → has_side new.gone other ≡ true = λ other was. rw loses.gone (gone_more old.gone side other was) in
     elim (cases_same part.run.segment side.id) [

@@ -1,25 +1,17 @@
 -- Where a segment is found by its number.
 use Rattle.std.proofs.Common.{◌≡◌, ℕ, true, List, [], ◌∷◌, Option, Some, None, sym, inl, inr, get_or}
-use Rattle.std.specs.List.{position, list_any, slice_get}
+use Rattle.std.specs.List.{list_any, slice_get}
 use Rattle.std.proofs.lemmas.Bool.{cases_Bool, eqb-true, eq-eqb}
-use Rattle.std.proofs.lemmas.List.Quantifiers.{position-Some}
 use Rattle.std.proofs.lemmas.List.Folds.{list_any-from_Any}
 use Rattle.std.proofs.lemmas.Option.{slice_get-get_or, slice_get_within, get_or_from_slice_get}
+use Rattle.units.specs.RowSearch.{FindsRow}
 use Rattle.client.specs.Lease.{Lease}
 use Rattle.client.specs.Seen.{is_lease, has_lease}
 use Rattle.client.specs.Places.{IsPlaceOf}
-use Rattle.client.proofs.Rows.{position_finds}
 
-pub place_found : (leases : List Lease) (id : ℕ) (found : Option ℕ) → found ≡ position (is_lease id) leases → IsPlaceOf leases id found
-place_found leases id None is =
-    elim (cases_Bool (list_any (is_lease id) leases)) [
-      | inl there ↦ absurd (position_finds (is_lease id) leases there (sym is))
-      | inr absent ↦ absent
-    ]
-place_found [] id (Some place) is = cc
-place_found (l ∷ leases) id (Some place) is =
-    let facts = position-Some (is_lease id) (l ∷ leases) place l (sym is) in
-    (get_or (l ∷ leases) place l, slice_get-get_or (l ∷ leases) place l facts.0, eqb-true _ _ facts.1)
+pub place_found : (leases : List Lease) (id : ℕ) (found : Option ℕ) → FindsRow (is_lease id) leases found → IsPlaceOf leases id found
+place_found leases id None absent = absent
+place_found leases id (Some place) (lease, stands, is) = (lease, stands, eqb-true lease.side.id id is)
 
 -- a segment that stands somewhere is found
 pub has_at : (leases : List Lease) (p id : ℕ) (lease : Lease) → slice_get leases p ≡ Some lease → lease.side.id ≡ id → has_lease leases id ≡ true

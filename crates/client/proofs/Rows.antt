@@ -141,15 +141,3 @@ Contains-cons xs y x there = (suc there.0, omega (arith, there.1), there.2)
 pub Contains-rest : {X : Type 0} (xs : List X) (y x : X) → Contains (y ∷ xs) x → x ≢ y → Contains xs x
 Contains-rest xs y x (zero, within, is) other = absurd (other (sym is))
 Contains-rest xs y x (suc k, within, is) other = (k, omega (arith, within), is)
-
--- what some element passes has a first place
-pub position_finds : {X : Type 0} (p : X → Bool) (xs : List X) → list_any p xs ≡ true → position p xs ≡ None → ⊥
-position_finds p xs present none =
-    let (k, x, within, is, passes) = Any-from_list_any p xs present in
-    elim (cases_lt (position_or_len p xs) (length xs)) [
-      | inl below ↦ some_is_not_none (position_or_len p xs) (sym (cond-true (ltb (position_or_len p xs) (length xs)) _ _ (lt-ltb _ _ below)) ∙ none)
-      | inr past ↦ both_ways (p (get_or xs k x)) (fails_before_first p xs k x (omega arith)) (rw is passes)
-    ]
-  where
-    some_is_not_none : (n : ℕ) → Some n ≡ None → ⊥
-    some_is_not_none n e = cc

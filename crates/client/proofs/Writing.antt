@@ -17,7 +17,7 @@ use Rattle.client.specs.Lease.{Lease, IsLease, content_of, pages_at, with_bytes}
 use Rattle.client.specs.Seen.{Seen, is_lease}
 use Rattle.client.specs.Pieces.{Part, Owns, AreApart, content_at, bytes_of, IsUsed, written_run, WritesOnly}
 use Rattle.client.specs.Calls.{Turns}
-use Rattle.client.specs.Kept.{IsSound, IsKept, LockedAreUsed}
+use Rattle.client.specs.Sound.{IsSoundSeen, IsSoundClient, LockedAreUsed}
 use Rattle.client.proofs.Rows.{cases_same, All-at}
 use Rattle.client.proofs.Pages.{has_within, within_range, apart_or_same, used_once, locked_some}
 use Rattle.client.proofs.KeptThrough.{others_differ}
@@ -121,17 +121,17 @@ one_written (l ∷ leases) (suc p) id first w lease at number alone =
     rw away (ap (λ more. l ∷ more) (one_written leases p id first w lease at number (λ q other bt e. let s = alone (suc q) other bt e in omega (arith, s))))
 
 -- no other segment has the number
-alone_there : (seen : Seen) (p id : ℕ) (lease : Lease) → IsSound seen → slice_get seen.leases p ≡ Some lease → lease.side.id ≡ id → (q : ℕ) (other : Lease) → slice_get seen.leases q ≡ Some other → other.side.id ≡ id → q ≡ p
+alone_there : (seen : Seen) (p id : ℕ) (lease : Lease) → IsSoundSeen seen → slice_get seen.leases p ≡ Some lease → lease.side.id ≡ id → (q : ℕ) (other : Lease) → slice_get seen.leases q ≡ Some other → other.side.id ≡ id → q ≡ p
 alone_there seen p id lease sound at number q other bt same =
     elim (cases_same q p) [ inl here ↦ here | inr apart ↦ absurd (others_differ seen p q lease other sound at bt apart (same ∙ sym number)) ]
 
 -- the segments after a write
-pub written_set : (seen : Seen) (run : Run) (p : ℕ) (lease : Lease) (w : List ℕ) → IsSound seen → slice_get seen.leases p ≡ Some lease → lease.side.id ≡ run.segment → (written_run seen run w).leases ≡ set seen.leases p (with_bytes run.first w lease)
+pub written_set : (seen : Seen) (run : Run) (p : ℕ) (lease : Lease) (w : List ℕ) → IsSoundSeen seen → slice_get seen.leases p ≡ Some lease → lease.side.id ≡ run.segment → (written_run seen run w).leases ≡ set seen.leases p (with_bytes run.first w lease)
 written_set seen run p lease w sound at number =
     one_written seen.leases p run.segment run.first w lease at number (alone_there seen p run.segment lease sound at number)
 
 -- A segment was written: the client is kept.
-pub kept_written : (seen : Seen) (pages room p first : ℕ) (lease : Lease) (w : List ℕ) → IsKept seen pages room → slice_get seen.leases p ≡ Some lease → IsKept (record seen { leases = set seen.leases p (with_bytes first w lease) }) pages room
+pub kept_written : (seen : Seen) (pages room p first : ℕ) (lease : Lease) (w : List ℕ) → IsSoundClient seen pages room → slice_get seen.leases p ≡ Some lease → IsSoundClient (record seen { leases = set seen.leases p (with_bytes first w lease) }) pages room
 kept_written seen pages room p first lease w kept at =
     let is = All-at IsLease seen.leases p lease kept.sound.leases at in
     kept_turned seen pages room p lease (with_bytes first w lease) kept at
@@ -139,7 +139,7 @@ kept_written seen pages room p first lease w kept at =
     (All-at (λ (l : Lease). l.side.phase ≢ Gone) seen.leases p lease kept.sound.live at)
 
 -- the client as it is seen after a write
-pub written_seen : (seen : Seen) (run : Run) (p first : ℕ) (lease : Lease) (w : List ℕ) → IsSound seen → slice_get seen.leases p ≡ Some lease → lease.side.id ≡ run.segment → first ≡ run.first → record seen { leases = set seen.leases p (with_bytes first w lease) } ≡ written_run seen run w
+pub written_seen : (seen : Seen) (run : Run) (p first : ℕ) (lease : Lease) (w : List ℕ) → IsSoundSeen seen → slice_get seen.leases p ≡ Some lease → lease.side.id ≡ run.segment → first ≡ run.first → record seen { leases = set seen.leases p (with_bytes first w lease) } ≡ written_run seen run w
 written_seen seen run p first lease w sound at number same =
     rw same (ap (λ (ls : List Lease). record seen { leases = ls }) (sym (written_set seen run p lease w sound at number)))
 
@@ -166,7 +166,7 @@ two : (b : Bool) → b ≡ true → b ≡ false → ⊥
 two b e f = cc
 
 -- how many bytes a locked piece has
-pub shown_length : (seen : Seen) (part : Part) (p : ℕ) (lease : Lease) → IsSound seen → IsUsed seen part.run true → slice_get seen.leases p ≡ Some lease → lease.side.id ≡ part.run.segment → HasPages lease.side → length (bytes_of seen part.run) ≡ PAGE * part.run.pages
+pub shown_length : (seen : Seen) (part : Part) (p : ℕ) (lease : Lease) → IsSoundSeen seen → IsUsed seen part.run true → slice_get seen.leases p ≡ Some lease → lease.side.id ≡ part.run.segment → HasPages lease.side → length (bytes_of seen part.run) ≡ PAGE * part.run.pages
 shown_length seen part p lease sound used at number pages =
     let run = part.run in
     let range = range_here seen run true p lease sound used at number in
@@ -176,7 +176,7 @@ shown_length seen part p lease sound used at number pages =
     ap length (sym (shown seen part p lease sound used at number)) ∙ length-take-le (PAGE * run.pages) (drop (PAGE * run.first) lease.side.bytes) fits
 
 -- a write changes no byte of another piece
-pub writes_only : (seen : Seen) (part : Part) (p : ℕ) (lease : Lease) → IsSound seen → Owns seen part → part.locked ≡ true → slice_get seen.leases p ≡ Some lease → lease.side.id ≡ part.run.segment → HasPages lease.side → WritesOnly part seen
+pub writes_only : (seen : Seen) (part : Part) (p : ℕ) (lease : Lease) → IsSoundSeen seen → Owns seen part → part.locked ≡ true → slice_get seen.leases p ≡ Some lease → lease.side.id ≡ part.run.segment → HasPages lease.side → WritesOnly part seen
 writes_only seen part p lease sound owns locked at number pages w whole =
     let run = part.run in
     let new = written_run seen run w in

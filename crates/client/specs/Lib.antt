@@ -7,7 +7,7 @@ pub mod Calls
 pub mod Lending
 pub mod Coming
 pub mod Finding
-pub mod Kept
+pub mod Sound
 pub mod Sizes
 pub mod Granting
 pub mod GrantedLending

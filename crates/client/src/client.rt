@@ -11,12 +11,12 @@ ghost use Rattle.client.specs.Seen.{Seen, new_client, next_untold, IsUnknown, is
 ghost use Rattle.client.specs.Gone.{AreGone, kept_side, after_next};
 ghost use Rattle.client.specs.Pieces.{Part, Owns, AllStay, OthersStay, IsNew, AreApart, bytes_of, IsLive, IsDead, LocksPiece, UnlocksPiece, IsUsed, StayElsewhere, part_after_lock, WritesOnly};
 ghost use Rattle.client.specs.Calls.{LocksPart, Unlocks, UnlocksRun, AfterFree, TakesFirstFree, TakesLast};
-ghost use Rattle.client.specs.Kept.{IsSound};
+ghost use Rattle.client.specs.Sound.{IsSoundSeen};
 ghost use Rattle.client.specs.Places.{IsThere, IsFirstFree, NoneAllFree};
 ghost use Rattle.client.specs.Finding.{Finds, Adopts, SweepsSome};
 
 use crate::answers::{Unadopted, Unlocked};
-use crate::coming::{front_locks, grow_front, make_room};
+use crate::coming::{front_locks, make_room};
 use crate::gone::GoneSides;
 use crate::lease::LeasedSegment;
 use crate::piece::Piece;
@@ -54,14 +54,15 @@ pub struct Client {
 
 impl Model for Client {
     ghost use Rattle.client.specs.Seen.{Seen, seen_of};
-    ghost use Rattle.client.specs.Kept.{IsKept};
+    ghost use Rattle.client.specs.Sound.{IsSoundClient};
 
     ghost Value = { Seen };
 
     ghost view = { λ c. seen_of c.number c.standard c.leases.items c.heap c.gone c.taken };
 
     ghost invariant = { λ c.
-        IsKept (seen_of c.number c.standard c.leases.items c.heap c.gone c.taken) c.pages c.gone.room };
+        IsSoundClient (seen_of c.number c.standard c.leases.items c.heap c.gone c.taken)
+        c.pages c.gone.room };
 }
 
 impl Client {
@@ -105,7 +106,7 @@ impl Client {
     /// The pages of its segments.
     pub fn heap_pages(&self) -> u64
         ensures pages { result ≡ size_of self.now.heap.segments }
-        ensures sound { IsSound self.now }
+        ensures sound { IsSoundSeen self.now }
     {
         u64::from(self.pages)
     }
@@ -124,6 +125,7 @@ impl Client {
         ensures apart { (one other : Part) → IsLive self.now one → IsLive self.now other
             → AreApart one.run other.run ⊎ (one.run ≡ other.run) }
     {
+        // For the proof: calls up the invariant of `Client`.
         let _ = &self.heap;
         self.is_owner(piece)
     }
@@ -218,7 +220,7 @@ impl Client {
         let Ok(()) = make_room(&mut self.leases, &mut self.gone) else {
             return Err(Unadopted { side });
         };
-        let Ok(span) = grow_front(&mut self.heap, alloc, side.id(), whole, pages) else {
+        let Ok(span) = self.heap.grow_front(alloc, side.id(), whole, pages) else {
             return Err(Unadopted { side });
         };
         self.pages += whole;
@@ -337,7 +339,7 @@ impl Client {
         let all = self.leases.len();
         let mut place = 0;
         while place < self.leases.len() {
-            if self.look_at(place) {
+            if self.look(place) {
                 place += 1;
             }
         }
@@ -363,6 +365,7 @@ impl Client {
         ensures unknown { IfSome result (λ side. IsUnknown side.id self.new) }
         ensures stay { AllStay self.old self.new }
     {
+        // For the proof: calls up the invariant of `Client`.
         let _ = &self.heap;
         let place = self.free_place()?;
         Some(self.take_out(place))

@@ -18,14 +18,14 @@ use crate::client::Client;
 use crate::ending::{ClientEnd, Sides};
 use crate::piece::Piece;
 use crate::returning::{give_back_all, give_back_free, give_back_held, tell_all};
-use crate::sizes::{pages_for, wanted};
+use crate::sizes::wanted;
 use segment::{Granter, Lock};
 use std::alloc::Global;
 use std::marker::Model;
 use std::snapshot::Snapshot;
 use std::sync::Wait;
 use std::thread::Threads;
-use units::NoMemory;
+use units::{NoMemory, pages_for};
 
 /// Why an allocation gave no piece.
 #[derive(Clone, Copy, Debug, PartialEq, Eq)]
@@ -91,6 +91,7 @@ impl<G: Granter + Drop> Granted<G> {
         ensures start { result.start ≡ granter }
         ensures grants { result.grants ≡ 0 }
     {
+        // For the proof: calls up the clause `told` of `Client::number`.
         let _number = client.number();
         Granted {
             client,

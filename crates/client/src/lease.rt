@@ -11,6 +11,7 @@ use page_locks::PageLocks;
 use segment::{Lock, OwnerSide};
 use std::marker::Model;
 use units::PAGE;
+use units::row_search::NumberedRow;
 
 /// A segment that a client has. Its side makes a step only where its first page is locked or its
 /// last one is unlocked.
@@ -26,6 +27,20 @@ impl Model for LeasedSegment {
     ghost Value = { Lease };
 
     ghost view = { λ s. record { side = s.side; locks = s.locks } };
+}
+
+impl NumberedRow for LeasedSegment {
+    ghost use Rattle.client.specs.Seen.{is_lease};
+
+    ghost is_of = { is_lease };
+
+    fn number(&self) -> u64 {
+        self.id()
+    }
+
+    fn is_of(&self, number: u64) -> bool {
+        self.id() == number
+    }
 }
 
 impl LeasedSegment {
@@ -127,7 +142,7 @@ impl LeasedSegment {
         ensures value { result.now ≡ pages_at first count self.old.side.bytes }
         ensures pages { HasPages self.old.side }
     {
-        // This call tells how long they are.
+        // For the proof: calls up the clause `pages` of `OwnerSide::bytes`.
         let _ = self.side.bytes();
         let first = first as usize * PAGE as usize;
         let length = count as usize * PAGE as usize;

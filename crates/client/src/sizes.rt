@@ -1,7 +1,7 @@
 ghost use Rattle.std.specs.Prelude.{◌≡◌};
-ghost use Rattle.client.specs.Sizes.{pages_for, wanted};
+ghost use Rattle.client.specs.Sizes.{wanted};
 
-use units::{MOST_PAGES, PAGE};
+use units::{MOST_PAGES, pages_for};
 
 /// How many pages so many bytes take, at least one. None exactly where they are more than the 65,536
 /// pages of the longest segment.
@@ -13,11 +13,4 @@ pub fn wanted(bytes: u64) -> Option<u32>
         return None;
     }
     Some(pages as u32)
-}
-
-/// How many pages so many bytes take, at least one.
-pub(crate) fn pages_for(bytes: u64) -> u64
-    ensures { result ≡ pages_for bytes }
-{
-    bytes.div_ceil(PAGE).max(1)
 }

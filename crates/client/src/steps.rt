@@ -92,7 +92,7 @@ impl Client {
 
     /// Looks at the segment at a place, where no page of it is locked. False where it is found gone, and then
     /// it leaves.
-    pub(crate) fn look_at(&mut self, place: usize) -> bool
+    pub(crate) fn look(&mut self, place: usize) -> bool
         requires { place < length self.old.leases }
         ensures looks { LooksInto place result self.old self.new }
         ensures stay { AllStay self.old self.new }

@@ -2,7 +2,7 @@
 use Rattle.std.specs.Prelude.{ℕ, if◌then◌else◌, List, [], ◌∷◌, codes, bytes_eq, Option, Some, None, option_and_then}
 use Rattle.line_text.specs.Number.{number_in}
 use Rattle.replay_plain.specs.declared.config.ReplayCfg.{ReplayCfg}
-use Rattle.serve_plain.specs.declared.config.ServeCfg.{ServeCfg}
+use Rattle.serve_texts.specs.declared.config.ServeCfg.{ServeCfg}
 use Rattle.tile_source.specs.declared.limits.TheConstants.{MOST_ZOOM, LAST_TILE}
 use Rattle.tile_source.specs.declared.tile.Tile.{Tile}
 use Rattle.command_line.specs.Settings.{replay_limit, serve_limit, standard_setting, keep_setting, clients_setting, side_setting, entries_setting, rounds_setting, set_to, allowed_side}

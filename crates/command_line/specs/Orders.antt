@@ -1,9 +1,9 @@
 -- How the code has what the words ask for.
 use Rattle.std.specs.Prelude.{◌≤◌}
-use Rattle.line_text.specs.declared.limits.TheConstants.{MOST_LIMIT}
+use Rattle.line_text.specs.declared.limits.TheConstants.{MOST_LIMIT, MOST_SEGMENT_PAGES}
 use Rattle.replay_plain.specs.declared.config.ReplayCfg.{ReplayCfg}
-use Rattle.serve_plain.specs.declared.limits.TheConstants.{MOST_STANDARD, MOST_KEPT}
-use Rattle.serve_plain.specs.Config.{IsSide, IsServeCfg}
+use Rattle.serve_texts.specs.declared.limits.TheConstants.{MOST_KEPT}
+use Rattle.serve_texts.specs.Config.{IsSide, IsServeCfg}
 use Rattle.tile_source.specs.Tile.{IsTile}
 use Rattle.command_line.specs.declared.order.Order.{Order}
 use Rattle.command_line.specs.declared.order.Order.TheVariants as order
@@ -25,7 +25,7 @@ order_value (order.Gen n) = Generate n
 -- each setting of a replay is in its range
 pub record IsReplayCfg (cfg : ReplayCfg) : Type 0 where
   pub limit : cfg.limit ≤ MOST_LIMIT
-  pub standard : (1 ≤ cfg.standard) × (cfg.standard ≤ MOST_STANDARD)
+  pub standard : (1 ≤ cfg.standard) × (cfg.standard ≤ MOST_SEGMENT_PAGES)
   pub keep : cfg.keep ≤ MOST_KEPT
 
 -- each number is in its range

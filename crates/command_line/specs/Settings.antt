@@ -1,8 +1,8 @@
 -- The options: their names, ranges and defaults.
 use Rattle.std.specs.Prelude.{ℕ, ◌==◌, ◌||◌, if◌then◌else◌, List, codes, Option, Some, None}
-use Rattle.line_text.specs.declared.limits.TheConstants.{MOST_LIMIT}
+use Rattle.line_text.specs.declared.limits.TheConstants.{MOST_LIMIT, MOST_CLIENTS, MOST_SEGMENT_PAGES}
 use Rattle.line_text.specs.Number.{number_in}
-use Rattle.serve_plain.specs.declared.limits.TheConstants.{MOST_CLIENTS, MOST_ENTRIES, MOST_ROUNDS, MOST_STANDARD, MOST_KEPT}
+use Rattle.serve_texts.specs.declared.limits.TheConstants.{MOST_ENTRIES, MOST_ROUNDS, MOST_KEPT}
 use Rattle.command_line.specs.Words.{GivenWords, value_of}
 
 -- an option whose value is a number: its name, its range, and its number where it is not given
@@ -12,16 +12,16 @@ pub record SettingValue : Type 0 where
   pub most : ℕ
   pub default : ℕ
 
--- `--limit`: how many pages the manager grants at most
+-- `--limit`: the number of granted pages that the manager tries not to exceed
 abbrev pub replay_limit : SettingValue
-replay_limit = record { name = codes "limit"; least = 0; most = MOST_LIMIT; default = 1048576 }
+replay_limit = record { name = codes "limit"; least = 0; most = MOST_LIMIT; default = MOST_LIMIT }
 
 abbrev pub serve_limit : SettingValue
 serve_limit = record { name = codes "limit"; least = 0; most = MOST_LIMIT; default = 16384 }
 
 -- `--standard`: how many pages a standard segment has
 abbrev pub standard_setting : SettingValue
-standard_setting = record { name = codes "standard"; least = 1; most = MOST_STANDARD; default = 64 }
+standard_setting = record { name = codes "standard"; least = 1; most = MOST_SEGMENT_PAGES; default = 64 }
 
 -- `--keep`: how many blocks the pool keeps
 abbrev pub keep_setting : SettingValue

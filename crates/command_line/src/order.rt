@@ -1,9 +1,9 @@
 use replay_plain::ReplayCfg;
-use serve_plain::ServeCfg;
+use serve_texts::ServeCfg;
 use tile_source::Tile;
 
 /// What the words of the command line ask for.
-#[derive(Clone, Copy, Debug)]
+#[derive(Clone, Copy)]
 pub enum Order<'a> {
     /// A script from the input is run.
     Replay(ReplayCfg),

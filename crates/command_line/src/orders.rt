@@ -2,7 +2,7 @@
 
 ghost use Rattle.std.specs.Prelude.{◌≡◌, ◌≤◌, option_map, IfSome, IfOk};
 ghost use Rattle.line_text.specs.Number.{number_in};
-ghost use Rattle.serve_plain.specs.Config.{IsSide, IsServeCfg};
+ghost use Rattle.serve_texts.specs.Config.{IsSide, IsServeCfg};
 ghost use Rattle.command_line.specs.Words.{GivenWords, texts};
 ghost use Rattle.command_line.specs.ClapWords.{IsGiven};
 ghost use Rattle.command_line.specs.Commands.{order_of, replay_order, replay_of, tile_order, tile_of, serve_order, serve_of, serve_cfg, gen_order, gen_of, named, side_of};
@@ -16,7 +16,7 @@ use crate::setting::{
 use clap::ArgMatches;
 use line_text::read_number;
 use replay_plain::ReplayCfg;
-use serve_plain::ServeCfg;
+use serve_texts::ServeCfg;
 use std::alloc::Global;
 use tile_source::{LAST_TILE, MOST_ZOOM, Tile};
 use units::NoMemory;

@@ -2,13 +2,13 @@
 
 ghost use Rattle.std.specs.Prelude.{◌≡◌, ◌≤◌, option_map, IfSome};
 ghost use Rattle.command_line.specs.Settings.{number_or, allowed_side};
-ghost use Rattle.serve_plain.specs.Config.{IsSide};
+ghost use Rattle.serve_texts.specs.Config.{IsSide};
 
-use line_text::{MOST_LIMIT, read_number};
-use serve_plain::{MOST_CLIENTS, MOST_ENTRIES, MOST_KEPT, MOST_ROUNDS, MOST_STANDARD};
+use line_text::{MOST_CLIENTS, MOST_LIMIT, MOST_SEGMENT_PAGES, read_number};
+use serve_texts::{MOST_ENTRIES, MOST_KEPT, MOST_ROUNDS};
 
 /// An option whose value is a number.
-#[derive(Clone, Copy, Debug)]
+#[derive(Clone, Copy)]
 pub(crate) struct Setting {
     /// Its name, which stands after `--`.
     pub(crate) name: &'static str,
@@ -18,15 +18,15 @@ pub(crate) struct Setting {
     pub(crate) default: u64,
 }
 
-/// How many pages the manager of a replay grants at most.
+/// The limit in pages of the manager of a replay.
 pub(crate) const REPLAY_LIMIT: Setting = Setting {
     name: "limit",
     least: 0,
     most: MOST_LIMIT,
-    default: 1_048_576,
+    default: MOST_LIMIT,
 };
 
-/// How many pages the manager of a served run grants at most.
+/// The limit in pages of the manager of a served run.
 pub(crate) const SERVE_LIMIT: Setting = Setting {
     name: "limit",
     least: 0,
@@ -38,7 +38,7 @@ pub(crate) const SERVE_LIMIT: Setting = Setting {
 pub(crate) const STANDARD: Setting = Setting {
     name: "standard",
     least: 1,
-    most: MOST_STANDARD as u64,
+    most: MOST_SEGMENT_PAGES,
     default: 64,
 };
 
@@ -54,7 +54,7 @@ pub(crate) const KEEP: Setting = Setting {
 pub(crate) const CLIENTS: Setting = Setting {
     name: "clients",
     least: 1,
-    most: MOST_CLIENTS as u64,
+    most: MOST_CLIENTS,
     default: 4,
 };
 

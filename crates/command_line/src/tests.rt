@@ -1,6 +1,6 @@
 use crate::{Order, order_of};
 use replay_plain::ReplayCfg;
-use serve_plain::ServeCfg;
+use serve_texts::ServeCfg;
 use std::alloc::Global;
 use std::test::Fail;
 use tile_source::Tile;

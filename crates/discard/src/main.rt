@@ -3,22 +3,13 @@
 //! line of reply to each on the standard output. `discard tile` writes one tile of the image in a file. `discard serve`
 //! serves its tiles to many clients, as requests from the standard input ask, and `discard gen` a workload that it draws.
 
-ghost use Rattle.discard.specs.Outside.{telling};
-ghost use Rattle.discard.specs.Report.{status_line, Told};
+ghost use Rattle.top_call.specs.Outside.{telling};
+ghost use Rattle.top_call.specs.Report.{status_line, Told};
 
-mod image_file;
-mod report;
-mod served_run;
-#[cfg(test)]
-mod tests;
-mod tile_run;
-mod top;
-
-use crate::report::tell;
-use crate::top::discard;
 use discard_io::{DirFiles, OpenGate, Sink, Status, StdSink, StdSource, SystemClock};
 use std::env;
 use std::process::ExitCode;
+use top_call::{discard, tell};
 
 fn main(rt: HostRuntime) -> ExitCode {
     let alloc = rt.alloc();

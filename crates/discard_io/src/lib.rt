@@ -2,8 +2,16 @@
 //! The outside of a run: where bytes come from and go to, files by name, the clock, the gate between threads,
 //! and the status that a run ends with.
 //!
-//! A run is written over the traits alone. Each object counts its faults, so that a caller is told of a fault only
-//! where the object itself had one; sources and sinks also count their calls, where they tell it.
+//! Promises: bytes where told, and faults only where a count rose.
+//!
+//! A run is written over the traits alone. It sees each object through ghost members: the bytes left, written or under a
+//! name, and how many calls were made, each None where the object does not tell it; and a count of faults that never
+//! falls. `Failed` comes only where that count rose, and code that is generic over the trait cannot raise it, so a run
+//! that gives up by itself is refused by its own contract. A count that stands at the greatest u64 counts as risen.
+//!
+//! Objects in memory tell everything, each with its state as one record. The adapters over std tell nothing of bytes and
+//! calls, and count their errors. `read_to_end` reads into one buffer of at most 64 KiB, copies each byte once, and never
+//! asks for bytes after the first `most + 1`; what it took is told also where it fails (`ReadsToEnd`).
 
 mod clock;
 mod files;

@@ -7,7 +7,7 @@ use Rattle.std.proofs.lemmas.List.FromFn.{get_or-map-range_with_len, length-map-
 use Rattle.std.proofs.lemmas.List.Elements.{Contains-append_right}
 use Rattle.free_lists.specs.declared.node.Node.{Node}
 use Rattle.free_lists.specs.Lists.{list_of, IsListed, without, before_in}
-use Rattle.free_lists.specs.Links.{alone, next_of, prev_of, class_at, list_at, lists_below, classes, place_of, linked, unlinked, IsKept}
+use Rattle.free_lists.specs.Links.{alone, next_of, prev_of, class_at, list_at, lists_below, classes, place_of, linked, unlinked, IsSoundLists}
 use Rattle.free_lists.proofs.Leads.{Leads-class, Leads-before, Leads-cut, Leads-last, place_of-end}
 use Rattle.free_lists.proofs.Nodes.{next_within, prev_within}
 use Rattle.free_lists.proofs.Linking.{IsLinked, IsLinked-set, Linked-list, Linked-other}
@@ -22,7 +22,7 @@ unfolding lists_below
 list_past nodes n end high = get_or_past (map (list_at nodes) (range_with_len 0 n)) end [] (omega (arith, length-map-range_with_len (list_at nodes) 0 n))
 
 -- a place in a list is of the class of that list
-pub class_of_listed : (nodes : List Node) (class place : ℕ) → IsKept nodes → Contains (list_of (classes nodes) class) place
+pub class_of_listed : (nodes : List Node) (class place : ℕ) → IsSoundLists nodes → Contains (list_of (classes nodes) class) place
     → (class_at nodes (place + 256) ≡ class) × (1 ≤ class) × (class ≤ 256)
 class_of_listed nodes zero place kept (k, within, is) = absurd (omega (arith, within))
 class_of_listed nodes (suc end) place kept there =
@@ -47,13 +47,13 @@ classed_within nodes x classed =
       | inr past ↦ absurd (classed (ap (λ (n : Node). n.class) (get_or_past nodes x (alone x) past)))
     ]
 
-pub listed_within : (nodes : List Node) (place : ℕ) → IsKept nodes → IsListed (classes nodes) place → place + 256 < length nodes
+pub listed_within : (nodes : List Node) (place : ℕ) → IsSoundLists nodes → IsListed (classes nodes) place → place + 256 < length nodes
 listed_within nodes place kept (class, there) =
     let of_class = class_of_listed nodes class place kept there in
     classed_within nodes (place + 256) (λ e. omega (arith, e, of_class.0, of_class.1))
 
 -- a place that stands in no list is of no class
-pub free_class : (nodes : List Node) (place : ℕ) → IsKept nodes → (IsListed (classes nodes) place → ⊥) → class_at nodes (place + 256) ≡ 0
+pub free_class : (nodes : List Node) (place : ℕ) → IsSoundLists nodes → (IsListed (classes nodes) place → ⊥) → class_at nodes (place + 256) ≡ 0
 free_class nodes place kept free = go (class_at nodes (place + 256)) refl
   where
     go : (c : ℕ) → class_at nodes (place + 256) ≡ c → class_at nodes (place + 256) ≡ 0
@@ -62,7 +62,7 @@ free_class nodes place kept free = go (class_at nodes (place + 256)) refl
         let low : end < 256 = omega (arith, is, kept.most (place + 256)) in
         absurd (free (suc end, rw (list_below nodes 256 end low) (kept.listed end place (is ∙ omega arith))))
 
-pub lists_linked : (nodes nodes' : List Node) (place end : ℕ) → IsKept nodes → end < 256 → class_at nodes (place + 256) ≡ 0 → IsLinked nodes nodes' (place + 256) end (prev_of nodes end) (end + 1)
+pub lists_linked : (nodes nodes' : List Node) (place end : ℕ) → IsSoundLists nodes → end < 256 → class_at nodes (place + 256) ≡ 0 → IsLinked nodes nodes' (place + 256) end (prev_of nodes end) (end + 1)
     → (class : ℕ) → list_of (classes nodes') class ≡ cond (eqb class (end + 1)) (list_of (classes nodes) class ++ place ∷ []) (list_of (classes nodes) class)
 lists_linked nodes nodes' place end kept low free after zero = rw (ne_eqb 0 (end + 1) (λ e. omega (arith, e))) refl
 lists_linked nodes nodes' place end kept low free after (suc other) =
@@ -79,7 +79,7 @@ lists_linked nodes nodes' place end kept low free after (suc other) =
           ])
     ]
 
-pub lists_unlinked : (nodes nodes' : List Node) (place : ℕ) → IsKept nodes → IsUnlinked nodes nodes' (place + 256) (prev_of nodes (place + 256)) (next_of nodes (place + 256))
+pub lists_unlinked : (nodes nodes' : List Node) (place : ℕ) → IsSoundLists nodes → IsUnlinked nodes nodes' (place + 256) (prev_of nodes (place + 256)) (next_of nodes (place + 256))
     → (class : ℕ) → list_of (classes nodes') class ≡ without (list_of (classes nodes) class) place
 lists_unlinked nodes nodes' place kept after zero = refl
 lists_unlinked nodes nodes' place kept after (suc end) =
@@ -88,14 +88,14 @@ lists_unlinked nodes nodes' place kept after (suc end) =
       | inr past ↦ rw (list_past nodes' 256 end past, list_past nodes 256 end past) refl
     ]
 
-pub last_of_list : (nodes : List Node) (end : ℕ) → IsKept nodes → end < 256 → place_of (prev_of nodes end) ≡ last_or None (list_of (classes nodes) (end + 1))
+pub last_of_list : (nodes : List Node) (end : ℕ) → IsSoundLists nodes → end < 256 → place_of (prev_of nodes end) ≡ last_or None (list_of (classes nodes) (end + 1))
 last_of_list nodes end kept low =
     let one : end + 1 ≡ suc end = omega arith in
     rw (one, list_below nodes 256 end low)
     (Leads-last (next_of nodes) (prev_of nodes) kept.back (list_at nodes end) end (next_of nodes end) end refl (kept.rings end low)
     ∙ ap (λ was. last_or was (list_at nodes end)) (place_of-end end low))
 
-pub before_in_list : (nodes : List Node) (class place : ℕ) → IsKept nodes → Contains (list_of (classes nodes) class) place
+pub before_in_list : (nodes : List Node) (class place : ℕ) → IsSoundLists nodes → Contains (list_of (classes nodes) class) place
     → place_of (prev_of nodes (place + 256)) ≡ before_in None (list_of (classes nodes) class) place
 before_in_list nodes zero place kept (k, within, is) = absurd (omega (arith, within))
 before_in_list nodes (suc end) place kept there =
@@ -112,7 +112,7 @@ pub unlinked_length : (nodes : List Node) (node : ℕ) → length (unlinked node
 unlinked_length nodes node = length-set _ _ _ ∙ (length-set _ _ _ ∙ length-set _ _ _)
 
 -- after an append
-pub linked_is : (nodes : List Node) (place class : ℕ) → IsKept nodes → 1 ≤ class → class ≤ 256 → place + 256 < length nodes → class_at nodes (place + 256) ≡ 0
+pub linked_is : (nodes : List Node) (place class : ℕ) → IsSoundLists nodes → 1 ≤ class → class ≤ 256 → place + 256 < length nodes → class_at nodes (place + 256) ≡ 0
     → IsLinked nodes (linked nodes (place + 256) class) (place + 256) (class - 1) (prev_of nodes (class - 1)) (class - 1 + 1)
 linked_is nodes place class kept some most within free =
     let same : class - 1 + 1 ≡ class = omega arith in
@@ -124,7 +124,7 @@ linked_is nodes place class kept some most within free =
     (λ e. omega (arith, e)) (λ e. omega (arith, last_class, sym (ap (class_at nodes) e) ∙ free)))
 
 -- after a removal
-pub unlinked_is : (nodes : List Node) (place : ℕ) → IsKept nodes → place + 256 < length nodes
+pub unlinked_is : (nodes : List Node) (place : ℕ) → IsSoundLists nodes → place + 256 < length nodes
     → IsUnlinked nodes (unlinked nodes (place + 256)) (place + 256) (prev_of nodes (place + 256)) (next_of nodes (place + 256))
 unlinked_is nodes place kept within =
     IsUnlinked-set nodes (place + 256) (prev_of nodes (place + 256)) (next_of nodes (place + 256)) within
@@ -134,7 +134,7 @@ unlinked_is nodes place kept within =
 pub read_prev : (nodes : List Node) (i : ℕ) (node : Node) → i < length nodes → node ≡ get_or nodes i node → node.prev ≡ prev_of nodes i
 read_prev nodes i node within is = ap (λ (n : Node). n.prev) (get_or_read nodes i node within is (alone i))
 
-pub cut_list : (nodes : List Node) (class place : ℕ) (older newer : List ℕ) → IsKept nodes → list_of (classes nodes) class ≡ older ++ place ∷ newer
+pub cut_list : (nodes : List Node) (class place : ℕ) (older newer : List ℕ) → IsSoundLists nodes → list_of (classes nodes) class ≡ older ++ place ∷ newer
     → place_of (prev_of nodes (place + 256)) ≡ last_or None older
 cut_list nodes zero place older newer kept is = absurd (nowhere older is)
   where

@@ -56,7 +56,7 @@ count_of nodes class = count_by (λ node. node.class == class) nodes
 
 -- Each link has its link back, and keeps the class. A node of no class is alone, each end has its class, each ring passes
 -- its end, and each place of a class stands in the list of its class.
-pub record IsKept (nodes : List Node) : Type 0 where
+pub record IsSoundLists (nodes : List Node) : Type 0 where
   pub ends : 256 ≤ length nodes
   pub small : length nodes < 2 ^ 32 + 256
   pub back : (x : ℕ) → prev_of nodes (next_of nodes x) ≡ x

@@ -18,20 +18,20 @@ const ENDS: usize = LAST_CLASS as usize;
 ///
 /// All lists are rings over one vector, which each pass through an end of their own, so that no
 /// call but `new` and `extend` goes along more than two neighbours.
-#[derive(Debug, Drop)]
+#[derive(Drop)]
 pub struct Lists {
     nodes: Vec<Node>,
 }
 
 impl Model for Lists {
     ghost use Rattle.free_lists.specs.Lists.{Classes};
-    ghost use Rattle.free_lists.specs.Links.{classes, IsKept};
+    ghost use Rattle.free_lists.specs.Links.{classes, IsSoundLists};
 
     ghost Value = { Classes };
 
     ghost view = { λ l. classes l.nodes.items };
 
-    ghost invariant = { λ l. IsKept l.nodes.items };
+    ghost invariant = { λ l. IsSoundLists l.nodes.items };
 }
 
 impl Lists {
@@ -110,5 +110,8 @@ fn place_of(node: usize) -> Option<u32>
     requires { node < 2 ^ 32 + 256 }
     ensures { result ≡ place_of node }
 {
-    node.checked_sub(ENDS).map(|place| place as u32)
+    if node < ENDS {
+        return None;
+    }
+    Some((node - ENDS) as u32)
 }

@@ -6,7 +6,7 @@ use units::NoMemory;
 
 /// A ring of nodes is a list's end and the places in that list. Node c - 1 is the end of the list
 /// of class c, and node p + 256 is the place p.
-#[derive(Clone, Copy, Debug, PartialEq, Eq)]
+#[derive(Clone, Copy)]
 pub(crate) struct Node {
     pub(crate) prev: usize,
     pub(crate) next: usize,

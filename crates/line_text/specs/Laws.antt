@@ -1,33 +1,9 @@
--- What the laws of numbers and scripts say.
+-- What the law of numbers says.
 use Rattle.std.specs.Fmt.{decimal}
-use Rattle.std.specs.Prelude.{◌≡◌, ◌<◌, ◌^◌, ℕ, List, ◌∷◌, ◌↔◌, map, Some}
-use Rattle.std.specs.List.Sorted.{IsStrictlyIncreasing}
-use Rattle.line_text.specs.Grammar.{IsSpelled, IsFaulty}
+use Rattle.std.specs.Prelude.{◌≡◌, ◌<◌, ◌^◌, ℕ, List, ◌↔◌, Some}
 use Rattle.line_text.specs.Number.{number_of}
-use Rattle.line_text.specs.Script.{Commands, IsScript, IsRefused}
-use Rattle.line_text.specs.Ranges.{AreInRange}
 
 -- a word is a number exactly where it is how that number is written, and the number is below 2^64
 abbrev pub EachNumberHasOneSpelling : Type 0
 EachNumberHasOneSpelling = (word : List ℕ) (n : ℕ)
     → ((number_of word ≡ Some n) ↔ ((n < 2 ^ 64) × (word ≡ decimal n)))
-
--- a text is a script of some commands exactly where the plain grammar spells them
-abbrev pub ScriptsAreSpelled : Type 0
-ScriptsAreSpelled = (text : List ℕ) (commands : Commands)
-    → (IsScript text commands ↔ IsSpelled text commands)
-
--- a text is refused exactly where it is too long or has a first line that is refused
-abbrev pub RefusedAreFaulty : Type 0
-RefusedAreFaulty = (text : List ℕ) (place cause : ℕ)
-    → (IsRefused text place cause ↔ IsFaulty text place cause)
-
--- the lines of a script's commands rise from 1 on
-abbrev pub LinesRise : Type 0
-LinesRise = (text : List ℕ) (commands : Commands) → IsScript text commands
-    → IsStrictlyIncreasing (0 ∷ map (λ c. c.0) commands)
-
--- each word of a script's commands lies in its range
-abbrev pub ScriptsAreInRange : Type 0
-ScriptsAreInRange = (text : List ℕ) (commands : Commands)
-    → IsScript text commands → AreInRange commands

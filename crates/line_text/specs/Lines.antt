@@ -50,9 +50,9 @@ is_kept ((b ∷ bs) ∷ words) = not (b == 35)
 abbrev pub IsSkipped : List ℕ → Type 0
 IsSkipped line = is_kept (words_of line) ≡ false
 
--- the line is kept, and this is its first word, and this what follows it
-abbrev pub IsKept : List ℕ → List ℕ → List ℕ → Type 0
-IsKept line word rest = (is_kept (words_of line) ≡ true) × HasFirstWord line word rest
+-- the line is not skipped, and this is its first word, and this what follows it
+abbrev pub IsNotSkipped : List ℕ → List ℕ → List ℕ → Type 0
+IsNotSkipped line word rest = (is_kept (words_of line) ≡ true) × HasFirstWord line word rest
 
 -- each kept line among these, as its number and its words, where the first of these has number n
 abbrev pub kept_from : ℕ → List (List ℕ) → List (ℕ × List (List ℕ))

@@ -1,8 +1,8 @@
 ghost use Rattle.std.specs.Prelude.{◌≡◌};
-ghost use Rattle.line_text.specs.Script.{cause_number};
+ghost use Rattle.line_text.specs.Refusals.{cause_number};
 
-/// Why a script is refused.
-#[derive(Clone, Copy, Debug, PartialEq, Eq)]
+/// Why a script or a request file is refused.
+#[derive(Clone, Copy)]
 pub enum Cause {
     /// The first word of the line is no command, or the word after `pressure` is neither `moderate`
     /// nor `critical`.
@@ -13,9 +13,10 @@ pub enum Cause {
     Number,
     /// A word that stands for bytes is not an even number of hexadecimal digits, from 2 to 8192.
     Bytes,
-    /// The line is the 4,097th command, or the 1,025th that may be granted a segment.
+    /// The line is the 4,097th command or request, or the 1,025th command that may be granted a
+    /// segment.
     Many,
-    /// The script has more than 1,048,576 bytes.
+    /// The text has more than 1,048,576 bytes.
     Long,
 }
 

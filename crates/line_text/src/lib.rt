@@ -1,36 +1,30 @@
 #![tactic(auto)]
-//! Texts in lines: numbers, bytes in hexadecimal digits, lines of words, and scripts.
+//! Texts in lines: numbers, bytes in hexadecimal digits, and lines of words.
 //!
-//! `read_script` answers the commands of a script, or the first place where it is refused and the
-//! cause; what each text is stands in `specs/`.
+//! Promises: each word is read as the number, or the bytes, that a definition says it is, and each
+//! number has one spelling; each text is cut into the lines that are not skipped, in their order.
+//! What scripts and request files share stands here: the causes of a refusal with their numbers, and
+//! the bounds of what texts may ask for, each once and by name.
+//!
+//! `Cut` keeps the words of all lines in one vector, borrowed from the text, and a span of it for
+//! each line; its invariant is that each span lies within the words. A reader that keeps no lines
+//! goes over a text by `split_line`, `split_kept` and `split_word`.
 
 mod cause;
-mod command;
-mod fault;
 mod hexadecimal;
 mod laws;
 mod limits;
 mod line;
 mod lines;
 mod number;
-mod rows;
-mod script;
 
 pub use cause::Cause;
-pub use command::Command;
-pub use fault::ScriptFault;
 pub use hexadecimal::read_hex;
-pub use laws::{
-    law_first_refusal, law_in_range, law_lines_rise, law_one_spelling, law_scripts_are_spelled,
-};
-pub use limits::{
-    LAST_CLIENT, MOST_COMMANDS, MOST_GRANTS, MOST_LIMIT, MOST_MOVED_BYTES, MOST_SCRIPT_BYTES,
-    MOST_SEGMENT_PAGES,
-};
+pub use laws::law_one_spelling;
+pub use limits::{MOST_CLIENTS, MOST_LIMIT, MOST_MOVED_BYTES, MOST_SEGMENT_PAGES, MOST_TEXT_BYTES};
 pub use line::{Cut, Line};
-pub use lines::cut;
+pub use lines::{cut, split_kept, split_line, split_word};
 pub use number::read_number;
-pub use script::{Script, read_script};
 
 #[cfg(test)]
 mod tests;

@@ -1,24 +1,29 @@
-//! How long a script is at most, and how much its commands ask for at most.
+//! How long a text that is read is at most, and how much it asks for at most.
 
 use units::PAGE;
 
-/// How many bytes a script has at most: 1 MiB.
-pub const MOST_SCRIPT_BYTES: u64 = 1_048_576;
+/// How many bytes a script or a request file has at most: 1 MiB.
+pub const MOST_TEXT_BYTES: u64 = 1_048_576;
 
-/// How many commands a script has at most.
-pub const MOST_COMMANDS: u64 = 4096;
+/// How many clients there are at most. They are numbered from 1, so it is the last client too.
+pub const MOST_CLIENTS: u64 = 64;
 
-/// How many commands of a script may be granted a segment at most.
-pub const MOST_GRANTS: u64 = 1024;
-
-/// The last client. Clients are numbered from 1.
-pub const LAST_CLIENT: u64 = 64;
-
-/// How many pages a segment of a script has at most: 2 MiB.
+/// How many pages a segment of a script, or a standard segment, has at most: 2 MiB.
 pub const MOST_SEGMENT_PAGES: u64 = 512;
 
 /// How many pages a manager's limit has at most: 4 GiB.
 pub const MOST_LIMIT: u64 = 1_048_576;
 
-/// How many bytes a `write` or `read` asks for at most.
+/// How many bytes a word of hexadecimal digits stands for at most: those of a page.
 pub const MOST_MOVED_BYTES: u64 = PAGE;
+
+// A definition that cites a constant would follow a wrong one, so each is held to its number.
+const _: () = prove!(MOST_TEXT_BYTES == 1_048_576);
+
+const _: () = prove!(MOST_CLIENTS == 64);
+
+const _: () = prove!(MOST_SEGMENT_PAGES == 512);
+
+const _: () = prove!(MOST_LIMIT == 1_048_576);
+
+const _: () = prove!(MOST_MOVED_BYTES == 4096);

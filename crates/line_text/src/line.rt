@@ -4,7 +4,7 @@ ghost use Rattle.std.specs.Option.{option_copied};
 use std::marker::Model;
 
 /// A line that is kept, seen by contracts as its number and its words.
-#[derive(Debug, Drop)]
+#[derive(Drop)]
 pub struct Line<'a> {
     number: u64,
     words: &'a [&'a [u8]],
@@ -40,7 +40,7 @@ impl<'a> Line<'a> {
 }
 
 /// Where the words of a line lie among the words of all lines.
-#[derive(Clone, Copy, Debug)]
+#[derive(Clone, Copy)]
 pub(crate) struct Span {
     pub(crate) number: u64,
     pub(crate) start: usize,
@@ -48,7 +48,7 @@ pub(crate) struct Span {
 }
 
 /// The lines of a text that are kept, seen by contracts as the list of them.
-#[derive(Debug, Drop)]
+#[derive(Drop)]
 pub struct Cut<'a> {
     pub(crate) words: Vec<&'a [u8]>,
     pub(crate) spans: Vec<Span>,

@@ -1,5 +1,5 @@
 ghost use Rattle.std.specs.Prelude.{◌≡◌, ◌<◌, ◌||◌, ◌==◌, [], ◌∷◌, ◌++◌, length, IfSome, MatchOption, position, not, IfOk, OnOk};
-ghost use Rattle.line_text.specs.Lines.{words_of, is_feed, is_blank, kept_lines, HasNoLine, HasFirstLine, HasNoWord, HasFirstWord, IsSkipped, IsKept};
+ghost use Rattle.line_text.specs.Lines.{words_of, is_feed, is_blank, kept_lines, HasNoLine, HasFirstLine, HasNoWord, HasFirstWord, IsSkipped, IsNotSkipped};
 ghost use Rattle.line_text.specs.Spans.{texts_of, lines_at, AreWithin};
 
 use crate::line::{Cut, Span};
@@ -35,7 +35,7 @@ fn word_end(line: &[u8]) -> Option<usize>
 }
 
 /// The first line of a text, and what follows its end.
-pub(crate) fn split_line(text: &[u8]) -> Option<(&[u8], &[u8])>
+pub fn split_line(text: &[u8]) -> Option<(&[u8], &[u8])>
     ensures lines { MatchOption result (HasNoLine text.now)
         (λ line. HasFirstLine text.now line.0.now line.1.now) }
     ensures shorter { IfSome result (λ line. length line.1.now < length text.now) }
@@ -50,7 +50,7 @@ pub(crate) fn split_line(text: &[u8]) -> Option<(&[u8], &[u8])>
 }
 
 /// The first word of a line, and what follows it.
-pub(crate) fn split_word(line: &[u8]) -> Option<(&[u8], &[u8])>
+pub fn split_word(line: &[u8]) -> Option<(&[u8], &[u8])>
     ensures words { MatchOption result (HasNoWord line.now)
         (λ word. HasFirstWord line.now word.0.now word.1.now) }
     ensures some { IfSome result (λ word. 0 < length word.0.now) }
@@ -65,9 +65,9 @@ pub(crate) fn split_word(line: &[u8]) -> Option<(&[u8], &[u8])>
 }
 
 /// The first word of a line and what follows it, unless the line is skipped.
-pub(crate) fn split_kept(line: &[u8]) -> Option<(&[u8], &[u8])>
+pub fn split_kept(line: &[u8]) -> Option<(&[u8], &[u8])>
     ensures { MatchOption result (IsSkipped line.now)
-        (λ word. IsKept line.now word.0.now word.1.now) }
+        (λ word. IsNotSkipped line.now word.0.now word.1.now) }
 {
     let (first, rest) = split_word(line)?;
     if first[0] == b'#' {

@@ -2,7 +2,7 @@
 use Rattle.std.proofs.Common.{◌≡◌, ◌≢◌, ℕ, ◌+◌, ◌<◌, ◌≤◌, Bool, true, false, List, [], ◌∷◌, ◌++◌, length, get_or, set, take, drop, Option, Some, None, IfSome, zero, suc, refl, sym, ap, ◌∙◌, subst, arith, length-append}
 use Rattle.std.specs.List.{Contains}
 use Rattle.std.specs.List.Sorted.{IsPermutation}
-use Rattle.std.proofs.lemmas.List.{get_or_read, length-map, map-append, append-nil, take_more, take-append-drop, length-set}
+use Rattle.std.proofs.lemmas.List.{get_or_read, length-map, map-append, append-nil, take_more, take_all, take-append-drop, length-set}
 use Rattle.std.proofs.lemmas.List.Edits.{length-remove}
 use Rattle.std.proofs.lemmas.List.Elements.{All-get_or, All-contains}
 use Rattle.std.proofs.lemmas.List.Sorted.{IsPermutation-push_more, length_permutation}
@@ -11,12 +11,12 @@ use Rattle.segment.specs.Warded.{Warded}
 use Rattle.discard_book.specs.Live.{has_number}
 use Rattle.lru_reduce.specs.Wards.{number_of, IsNew, candidate_of, segments_of, without_ward}
 use Rattle.lru_reduce.specs.Calls.{placed, TakesNumber, IsKnownUse}
-use Rattle.lru_reduce.specs.Entries.{key_of, keys_of}
+use Rattle.lru_reduce.specs.Uses.{entry_for, uses_of}
 use Rattle.lru_reduce.specs.Turns.{Wins, Loses, WinsAt, LosesAt}
 use Rattle.lru_reduce.specs.Slots.{slot_number, with_side, sides_of, IsSlot, AreSlots, IsSlotOf, HasNoSlot, SlotWins, SlotLoses}
-use Rattle.lru_reduce.specs.declared.table.Slot.{Slot}
+use Rattle.lru_reduce.specs.declared.slots.Slot.{Slot}
 use Rattle.lru_reduce.proofs.Keyed.{remove-but, remove-set, rising_apart}
-use Rattle.lru_reduce.proofs.Fronts.{from_map, has_warden, number_in}
+use Rattle.lru_reduce.proofs.Uses.{from_map, has_warden, number_in}
 use Rattle.lru_reduce.proofs.Slotted.{IsHeld, is_held, live_slots, slots_set, sides_filled}
 use Rattle.lru_reduce.proofs.Steps.{won_at, lost_at}
 
@@ -216,21 +216,26 @@ more_sides slots n x side inside read is =
     ∙ ap (λ (s : Slot). sides_of (take n slots) ++ with_side s.side []) (sym read)
     ∙ ap (λ (o : Option Warded). sides_of (take n slots) ++ with_side o []) is
 
-pub none_more : (slots : List Slot) (n : ℕ) (x : Slot) (keys : List (ℕ × ℕ)) → n < length slots → x ≡ get_or slots n x → x.side ≡ None → IsPermutation (keys_of (sides_of (take n slots))) keys → IsPermutation (keys_of (sides_of (take (n + 1) slots))) keys
-none_more slots n x keys inside read is all =
+pub none_more : (slots : List Slot) (n : ℕ) (x : Slot) (entries : List (ℕ × ℕ)) → n < length slots → x ≡ get_or slots n x → x.side ≡ None → IsPermutation (uses_of (sides_of (take n slots))) entries → IsPermutation (uses_of (sides_of (take (n + 1) slots))) entries
+none_more slots n x entries inside read is all =
     let whole : sides_of (take (n + 1) slots) ≡ sides_of (take n slots) = more_sides slots n x None inside read is ∙ append-nil (sides_of (take n slots)) in
     rw whole all
 
-pub one_more : (slots : List Slot) (n : ℕ) (x : Slot) (w : Warded) (keys new : List (ℕ × ℕ)) → n < length slots → x ≡ get_or slots n x → x.side ≡ Some w → IsPermutation (keys_of (sides_of (take n slots))) keys → IsPermutation (key_of w ∷ keys) new
-    → IsPermutation (keys_of (sides_of (take (n + 1) slots))) new
-one_more slots n x w keys new inside read is all moved =
-    let whole : keys_of (sides_of (take (n + 1) slots)) ≡ keys_of (sides_of (take n slots)) ++ key_of w ∷ [] =
-    ap (λ (ws : List Warded). keys_of ws) (more_sides slots n x (Some w) inside read is) ∙ map-append key_of (sides_of (take n slots)) (w ∷ []) in
-    rw whole (IsPermutation-push_more (keys_of (sides_of (take n slots))) keys new (key_of w) all moved)
+pub one_more : (slots : List Slot) (n : ℕ) (x : Slot) (w : Warded) (entries new : List (ℕ × ℕ)) → n < length slots → x ≡ get_or slots n x → x.side ≡ Some w → IsPermutation (uses_of (sides_of (take n slots))) entries → IsPermutation (entry_for w ∷ entries) new
+    → IsPermutation (uses_of (sides_of (take (n + 1) slots))) new
+one_more slots n x w entries new inside read is all moved =
+    let whole : uses_of (sides_of (take (n + 1) slots)) ≡ uses_of (sides_of (take n slots)) ++ entry_for w ∷ [] =
+    ap (λ (ws : List Warded). uses_of ws) (more_sides slots n x (Some w) inside read is) ∙ map-append entry_for (sides_of (take n slots)) (w ∷ []) in
+    rw whole (IsPermutation-push_more (uses_of (sides_of (take n slots))) entries new (entry_for w) all moved)
 
-pub room_more : (slots : List Slot) (n room : ℕ) (x : Slot) (w : Warded) (keys : List (ℕ × ℕ)) → n < length slots → x ≡ get_or slots n x → x.side ≡ Some w → IsPermutation (keys_of (sides_of (take n slots))) keys → length (sides_of slots) ≤ room → length keys < room
-room_more slots n room x w keys inside read is all within =
-    let long : length keys ≡ length (sides_of (take n slots)) = length_permutation (keys_of (sides_of (take n slots))) keys all ∙ length-map (sides_of (take n slots)) key_of in
+pub room_more : (slots : List Slot) (n room : ℕ) (x : Slot) (w : Warded) (entries : List (ℕ × ℕ)) → n < length slots → x ≡ get_or slots n x → x.side ≡ Some w → IsPermutation (uses_of (sides_of (take n slots))) entries → length (sides_of slots) ≤ room → length entries < room
+room_more slots n room x w entries inside read is all within =
+    let long : length entries ≡ length (sides_of (take n slots)) = length_permutation (uses_of (sides_of (take n slots))) entries all ∙ length-map (sides_of (take n slots)) entry_for in
     let next = ap (λ (ws : List Warded). length ws) (more_sides slots n x (Some w) inside read is) ∙ length-append (sides_of (take n slots)) (w ∷ []) in
     let whole = ap (λ (more : List Slot). length (sides_of more)) (sym (take-append-drop (n + 1) slots)) ∙ ap (λ (ws : List Warded). length ws) (sides-append (take (n + 1) slots) (drop (n + 1) slots)) ∙ length-append (sides_of (take (n + 1) slots)) (sides_of (drop (n + 1) slots)) in
     omega (arith, long, next, whole, within)
+
+-- all slots are passed
+pub all_filled : (slots all : List Slot) (n : ℕ) (entries : List (ℕ × ℕ)) → length slots ≤ n → slots ≡ all → IsPermutation (uses_of (sides_of (take n slots))) entries → IsPermutation (uses_of (sides_of all)) entries
+all_filled slots all n entries over is moved =
+    subst (λ (xs : List Slot). IsPermutation (uses_of (sides_of xs)) entries) (take_all n slots over ∙ is) moved

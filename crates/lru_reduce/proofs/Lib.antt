@@ -5,8 +5,7 @@ pub mod Steps
 pub mod Gained
 pub mod Turned
 pub mod Granted
-pub mod Firsts
-pub mod Fronts
+pub mod Uses
 pub mod Slotted
 pub mod Held
 pub mod Tried

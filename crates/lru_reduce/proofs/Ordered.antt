@@ -1,131 +1,57 @@
--- An order by its heap: the least, and what each change leaves.
-use Rattle.std.proofs.Common.{◌≡◌, ◌≢◌, ◌⊎◌, ℕ, ◌+◌, ◌*◌, ◌<◌, ◌==◌, nat_lt, nat_le, Bool, true, false, not, cond, List, [], ◌∷◌, length, get_or, map, All, Option, Some, None, option_map, inl, inr, zero, suc, refl, sym, ap, ◌∙◌, subst, arith}
+-- An order by its queue: the least, and what each change leaves.
+use Rattle.std.proofs.Common.{◌≡◌, ◌≢◌, ◌⊎◌, ℕ, ◌+◌, ◌*◌, ◌<◌, ◌==◌, nat_le, Bool, true, false, not, cond, List, [], ◌∷◌, length, get_or, map, Option, Some, None, option_map, inl, inr, zero, suc, refl, sym, ap, ◌∙◌, subst, arith}
 use Rattle.std.specs.List.{Contains, remove}
 use Rattle.std.proofs.lemmas.Bool.Decides.{nat_tests}
 use Rattle.std.proofs.lemmas.List.{get_or_read, length-map}
 use Rattle.std.proofs.lemmas.List.Edits.{length-remove}
-use Rattle.std.proofs.lemmas.List.Elements.{All-head, All-tail, All-weaker, All-filter, All-contains, All-contains_itself, Contains-get_or}
+use Rattle.std.proofs.lemmas.List.Elements.{All-weaker, All-filter, All-contains, All-contains_itself, Contains-get_or}
 use Rattle.machine.specs.Reduction.{Candidate, use_of, comes_first, least_of, least}
 use Rattle.segment.specs.Warded.{Warded}
 use Rattle.segment.specs.declared.warden.Purge.TheVariants.{Taken, Used}
 use Rattle.discard_book.specs.Live.{has_number}
 use Rattle.lru_reduce.specs.Wards.{Wards, number_of, AreLive, IsNew, candidate_of, candidates_of, segments_of, total_pages, without_ward, noted_at, used_after}
 use Rattle.lru_reduce.specs.Calls.{told, placed, IsKnownUse, TakesNumber, TakesOut, TriesOne}
-use Rattle.lru_reduce.specs.Entries.{key_of, GoesFirst, IsFirst, HoldsEach, HoldsOthers, IsKeyed}
+use Rattle.use_queue.specs.Entries.{entry_of, IsFirst, HoldsEach, HoldsOthers, IsSoundQueue}
+use Rattle.lru_reduce.specs.Uses.{entry_for, uses_of}
 use Rattle.lru_reduce.specs.Turns.{IsDueOn, IsPlaceOf, LosesAt, Loses, Wins, stood_as}
 use Rattle.lru_reduce.proofs.Keyed.{same_yes, same_no, remove-but, rising_apart}
-use Rattle.lru_reduce.proofs.Firsts.{head_in, same_first}
-use Rattle.lru_reduce.proofs.Fronts.{from_map, in_map, number_in, has_place, has_warden, live_none}
+use Rattle.use_queue.proofs.Firsts.{head_in}
+use Rattle.use_queue.proofs.Least.{first_of_live, first_is_least}
+use Rattle.lru_reduce.proofs.Uses.{from_map, in_map, number_in, has_place, has_warden, live_none, same_uses}
 use Rattle.lru_reduce.proofs.Placed.{All-placed}
 
 -- The least
-
--- the entry of a segment as a reduction sees it
-abbrev pub entry_of : Candidate → ℕ × ℕ
-entry_of c = (use_of c, c.id)
-
--- this entry is that of one of these
-abbrev pub Among : ℕ × ℕ → List Candidate → Type 0
-Among k [] = ⊥
-Among k (c ∷ cs) = (entry_of c ≡ k) ⊎ Among k cs
-
-abbrev pub GoesBefore : ℕ × ℕ → List Candidate → Type 0
-GoesBefore k [] = Unit {0}
-GoesBefore k (c ∷ cs) = GoesFirst k (entry_of c) × GoesBefore k cs
-
-not_first : (d b : Candidate) → comes_first d b ≡ false → GoesFirst (entry_of b) (entry_of d)
-not_first d b e = by (nat_lt (use_of b) (use_of d)) refl
-  where
-    by : (t : Bool) → nat_lt (use_of b) (use_of d) ≡ t → GoesFirst (entry_of b) (entry_of d)
-    by true l = inl (grind (arith, nat_tests, l))
-    by false l = inr (grind (arith, nat_tests, l, e), grind (arith, nat_tests, l, e))
-
-is_first : (d b : Candidate) → comes_first d b ≡ true → (use_of d < use_of b) ⊎ ((use_of d ≡ use_of b) × (d.id < b.id))
-is_first d b e = by (nat_lt (use_of d) (use_of b)) refl
-  where
-    by : (t : Bool) → nat_lt (use_of d) (use_of b) ≡ t → (use_of d < use_of b) ⊎ ((use_of d ≡ use_of b) × (d.id < b.id))
-    by true l = inl (grind (arith, nat_tests, l))
-    by false l = inr (grind (arith, nat_tests, l, e), grind (arith, nat_tests, l, e))
-
-not_after : (k : ℕ × ℕ) (d b : Candidate) → entry_of b ≡ k → GoesFirst k (entry_of d) → comes_first d b ≡ true → ⊥
-not_after k d b is goes e = by goes (is_first d b e)
-  where
-    u : use_of b ≡ k.0
-    u = ap (λ (o : ℕ × ℕ). o.0) is
-
-    n : b.id ≡ k.1
-    n = ap (λ (o : ℕ × ℕ). o.1) is
-
-    by : GoesFirst k (entry_of d) → (use_of d < use_of b) ⊎ ((use_of d ≡ use_of b) × (d.id < b.id)) → ⊥
-    by (inl l) (inl m) = absurd (omega (arith, l, m, u))
-    by (inl l) (inr m) = let s = m.0 in absurd (omega (arith, l, s, u))
-    by (inr l) (inl m) = let s = l.0 in absurd (omega (arith, s, m, u))
-    by (inr l) (inr m) = let s = l.1 in let r = m.1 in absurd (omega (arith, s, r, n))
-
--- the better of two still has the entry, if one of them or of the rest has it
-still_among : (t : Bool) (k : ℕ × ℕ) (d b : Candidate) (rest : List Candidate) → comes_first d b ≡ t → Among k (b ∷ d ∷ rest) → GoesBefore k (b ∷ d ∷ rest) → Among k (cond t d b ∷ rest)
-still_among true k d b rest e (inl is) goes = absurd (not_after k d b is goes.1.0 e)
-still_among true k d b rest e (inr (inl is)) goes = inl is
-still_among true k d b rest e (inr (inr more)) goes = inr more
-still_among false k d b rest e (inl is) goes = inl is
-still_among false k d b rest e (inr (inl is)) goes =
-    inl (same_first (entry_of b) k (subst (λ (o : ℕ × ℕ). GoesFirst (entry_of b) o) is (not_first d b e)) goes.0)
-still_among false k d b rest e (inr (inr more)) goes = inr more
-
-still_before : (t : Bool) (k : ℕ × ℕ) (d b : Candidate) (rest : List Candidate) → GoesBefore k (b ∷ d ∷ rest) → GoesBefore k (cond t d b ∷ rest)
-still_before true k d b rest goes = (goes.1.0, goes.1.1)
-still_before false k d b rest goes = (goes.0, goes.1.1)
-
-least_entry : (k : ℕ × ℕ) (b : Candidate) (rest : List Candidate) → Among k (b ∷ rest) → GoesBefore k (b ∷ rest) → entry_of (least_of b rest) ≡ k
-least_entry k b [] (inl is) goes = is
-least_entry k b [] (inr none) goes = absurd none
-least_entry k b (d ∷ rest) among goes =
-    least_entry k (cond (comes_first d b) d b) rest (still_among (comes_first d b) k d b rest refl among goes) (still_before (comes_first d b) k d b rest goes)
-
-among_by : (k : ℕ × ℕ) (sides : List Warded) (i : ℕ) (w : Warded) → i < length sides → key_of (get_or sides i w) ≡ k → Among k (candidates_of sides)
-among_by k [] i w inside is = absurd (omega (arith, inside))
-among_by k (v ∷ sides) zero w inside is = inl is
-among_by k (v ∷ sides) (suc i) w inside is = inr (among_by k sides i w (omega (arith, inside)) is)
-
-before_by : (k : ℕ × ℕ) (sides : List Warded) → All (λ (w : Warded). GoesFirst k (key_of w)) sides → GoesBefore k (candidates_of sides)
-before_by k [] all = tt
-before_by k (w ∷ sides) all = (All-head (λ (o : Warded). GoesFirst k (key_of o)) w sides all, before_by k sides (All-tail (λ (o : Warded). GoesFirst k (key_of o)) w sides all))
-
-told_by : (k : ℕ × ℕ) (cs : List Candidate) → Among k cs → GoesBefore k cs → option_map told (least cs) ≡ Some (k.1, k.0)
-told_by k [] none goes = absurd none
-told_by k (c ∷ cs) among goes =
-    let e = least_entry k c cs among goes in
-    ap (λ (o : ℕ × ℕ). Some (o.1, o.0)) e
 
 some_is : {X : Type 0} (a b : X) → Some a ≡ Some b → a ≡ b
 some_is a b e = cc
 
 -- what stands at the front is the least
-pub told_first : (k : ℕ × ℕ) (sides : List Warded) (keys : List (ℕ × ℕ)) → IsKeyed sides keys → IsFirst k keys → option_map told (least (candidates_of sides)) ≡ Some (k.1, k.0)
-told_first k sides keys keyed first =
-    let from = from_map key_of sides k (keyed.front k first) in
-    told_by k (candidates_of sides) (among_by k sides from.there.0 from.from from.there.1 (ap key_of from.there.2 ∙ from.is))
-    (before_by k sides (All-weaker (Contains sides) (λ (w : Warded). GoesFirst k (key_of w)) (λ w there. All-contains (GoesFirst k) keys (key_of w) first.1 (keyed.each w there)) sides (All-contains_itself sides)))
+pub told_first : (k : ℕ × ℕ) (sides : List Warded) (entries : List (ℕ × ℕ)) → IsSoundQueue (Contains (uses_of sides)) entries → IsFirst k entries → option_map told (least (candidates_of sides)) ≡ Some (k.1, k.0)
+told_first k sides entries sound first = by (least (candidates_of sides)) (first_is_least k (candidates_of sides) (rw (same_uses sides) (first_of_live k (uses_of sides) entries sound first)))
+  where
+    by : (o : Option Candidate) → option_map entry_of o ≡ Some k → option_map told o ≡ Some (k.1, k.0)
+    by None e = cc
+    by (Some c) e = ap (λ (o : ℕ × ℕ). Some (o.1, o.0)) (some_is (entry_of c) k e)
 
-pub use_first : (k : ℕ × ℕ) (sides : List Warded) (keys : List (ℕ × ℕ)) → IsKeyed sides keys → IsFirst k keys → option_map use_of (least (candidates_of sides)) ≡ Some k.0
-use_first k sides keys keyed first = by (least (candidates_of sides)) (told_first k sides keys keyed first)
+pub use_first : (k : ℕ × ℕ) (sides : List Warded) (entries : List (ℕ × ℕ)) → IsSoundQueue (Contains (uses_of sides)) entries → IsFirst k entries → option_map use_of (least (candidates_of sides)) ≡ Some k.0
+use_first k sides entries sound first = by (least (candidates_of sides)) (told_first k sides entries sound first)
   where
     by : (o : Option Candidate) → option_map told o ≡ Some (k.1, k.0) → option_map use_of o ≡ Some k.0
     by None e = cc
     by (Some c) e = ap (λ (o : ℕ × ℕ). Some o.1) (some_is (told c) (k.1, k.0) e)
 
 -- nothing stands there where nothing is live
-pub none_first : (sides : List Warded) (keys : List (ℕ × ℕ)) → IsKeyed sides keys → keys ≡ [] → sides ≡ []
-none_first [] keys keyed e = refl
-none_first (w ∷ sides) [] keyed e = let l = (keyed.each w (head_in w sides)).1 in absurd (omega (arith, l))
-none_first (w ∷ sides) (k ∷ keys) keyed e = cc
+pub none_first : (sides : List Warded) (entries : List (ℕ × ℕ)) → IsSoundQueue (Contains (uses_of sides)) entries → entries ≡ [] → sides ≡ []
+none_first [] entries sound e = refl
+none_first (w ∷ sides) [] sound e = let l = (sound.each (entry_for w) (head_in (entry_for w) (uses_of sides))).1 in absurd (omega (arith, l))
+none_first (w ∷ sides) (k ∷ entries) sound e = cc
 
-pub none_least : {X : Type 0} (f : Candidate → X) (sides : List Warded) (keys : List (ℕ × ℕ)) → IsKeyed sides keys → keys ≡ [] → option_map f (least (candidates_of sides)) ≡ None
-none_least f sides keys keyed e = ap (λ (ws : List Warded). option_map f (least (candidates_of ws))) (none_first sides keys keyed e)
+pub none_least : {X : Type 0} (f : Candidate → X) (sides : List Warded) (entries : List (ℕ × ℕ)) → IsSoundQueue (Contains (uses_of sides)) entries → entries ≡ [] → option_map f (least (candidates_of sides)) ≡ None
+none_least f sides entries sound e = ap (λ (ws : List Warded). option_map f (least (candidates_of ws))) (none_first sides entries sound e)
 
 -- the number at the front is live
-pub front_live : (k : ℕ × ℕ) (sides : List Warded) (keys : List (ℕ × ℕ)) → IsKeyed sides keys → IsFirst k keys → false ≡ has_number (segments_of sides) k.1 → ⊥
-front_live k sides keys keyed first none = live_none k.1 k.0 sides (sym none) (keyed.front k first)
+pub front_live : (k : ℕ × ℕ) (sides : List Warded) (entries : List (ℕ × ℕ)) → IsSoundQueue (Contains (uses_of sides)) entries → IsFirst k entries → false ≡ has_number (segments_of sides) k.1 → ⊥
+front_live k sides entries sound first none = live_none k.1 k.0 sides (sym none) (sound.front k first)
 
 -- Two of the same number are one
 
@@ -252,15 +178,23 @@ due_on limit now id known granted sides e total above early = by (least (candida
 
 -- What changes leave of the entries
 
-pub each_left : (id : ℕ) (old new : List Warded) (keys : List (ℕ × ℕ)) → new ≡ without_ward id old → HoldsEach old keys → HoldsEach new keys
-each_left id old new keys is each w there =
-    each w (All-contains (Contains old) (without_ward id old) w (All-filter (λ (v : Warded). not (v.id == id)) (Contains old) old (All-contains_itself old)) (subst (λ (ws : List Warded). Contains ws w) is there))
+pub each_left : (id : ℕ) (old new : List Warded) (entries : List (ℕ × ℕ)) → new ≡ without_ward id old → HoldsEach (Contains (uses_of old)) entries → HoldsEach (Contains (uses_of new)) entries
+each_left id old new entries is each k live =
+    let from = from_map entry_for new k live in
+    let w = from.from in
+    let stayed : Contains old w =
+    All-contains (Contains old) (without_ward id old) w (All-filter (λ (v : Warded). not (v.id == id)) (Contains old) old (All-contains_itself old)) (subst (λ (ws : List Warded). Contains ws w) is from.there) in
+    subst (Contains entries) from.is (each (entry_for w) (in_map entry_for old w stayed))
 
-pub others_placed : (w : Warded) (old new : List Warded) (keys : List (ℕ × ℕ)) → new ≡ placed w old → HoldsEach old keys → HoldsOthers w.id new keys
-others_placed w old new keys is each v there =
-    All-contains (λ (o : Warded). o.id ≢ w.id → Contains keys (key_of o)) (placed w old) v
-    (All-placed (λ (o : Warded). o.id ≢ w.id → Contains keys (key_of o)) w old (λ other. absurd (other refl)) (All-weaker (Contains old) (λ (o : Warded). o.id ≢ w.id → Contains keys (key_of o)) (λ o there _. each o there) old (All-contains_itself old)))
-    (subst (λ (ws : List Warded). Contains ws v) is there)
+pub others_placed : (w : Warded) (old new : List Warded) (entries : List (ℕ × ℕ)) → new ≡ placed w old → HoldsEach (Contains (uses_of old)) entries → HoldsOthers w.id (Contains (uses_of new)) entries
+others_placed w old new entries is each k live other =
+    let from = from_map entry_for new k live in
+    let v = from.from in
+    subst (Contains entries) from.is
+    (All-contains (λ (o : Warded). o.id ≢ w.id → Contains entries (entry_for o)) (placed w old) v
+    (All-placed (λ (o : Warded). o.id ≢ w.id → Contains entries (entry_for o)) w old (λ not_it. absurd (not_it refl))
+    (All-weaker (Contains old) (λ (o : Warded). o.id ≢ w.id → Contains entries (entry_for o)) (λ o there _. each (entry_for o) (in_map entry_for old o there)) old (All-contains_itself old)))
+    (subst (λ (ws : List Warded). Contains ws v) is from.there) (λ same. other (ap (λ (o : ℕ × ℕ). o.1) (sym from.is) ∙ same)))
 
 pub known_placed : (w : Warded) (old new : List Warded) → new ≡ placed w old → IsNew w.id old → IsKnownUse w.id (use_of (candidate_of w)) new
 known_placed w old new is fresh c there number =
@@ -303,13 +237,14 @@ noted_by id now known place (w ∷ old) new of lost =
 pub noted_is : (id now known : ℕ) (old new : List Warded) → has_number (segments_of old) id ≡ true → Loses id now known old new → Noted id now known old new
 noted_is id now known old new there loses = let found = has_place id old there in noted_by id now known found.place old new found.is (loses found.place found.is)
 
-pub others_noted : (id now known : ℕ) (old new : List Warded) (keys : List (ℕ × ℕ)) → Noted id now known old new → HoldsEach old keys → HoldsOthers id new keys
-others_noted id now known old new keys noted each v there other =
-    let from = from_map (noted_at now noted.word id) old v (subst (λ (ws : List Warded). Contains ws v) noted.sides there) in
+pub others_noted : (id now known : ℕ) (old new : List Warded) (entries : List (ℕ × ℕ)) → Noted id now known old new → HoldsEach (Contains (uses_of old)) entries → HoldsOthers id (Contains (uses_of new)) entries
+others_noted id now known old new entries noted each k live other =
+    let at = from_map entry_for new k live in
+    let from = from_map (noted_at now noted.word id) old at.from (subst (λ (ws : List Warded). Contains ws at.from) noted.sides at.there) in
     let u = from.from in
-    let number : u.id ≢ id = λ same. other (ap (λ (o : Warded). o.id) (sym from.is) ∙ noted_id now noted.word id u ∙ same) in
-    let is : u ≡ v = sym (noted_other now noted.word id u number) ∙ from.is in
-    subst (λ (o : Warded). Contains keys (key_of o)) is (each u from.there)
+    let number : u.id ≢ id = λ same. other (ap (λ (o : ℕ × ℕ). o.1) (sym at.is) ∙ ap (λ (o : Warded). o.id) (sym from.is) ∙ noted_id now noted.word id u ∙ same) in
+    let is : entry_for u ≡ k = ap entry_for (sym (noted_other now noted.word id u number) ∙ from.is) ∙ at.is in
+    subst (Contains entries) is (each (entry_for u) (in_map entry_for old u from.there))
 
 pub known_noted : (id now known : ℕ) (old new : List Warded) → Noted id now known old new → IsKnownUse id known new
 known_noted id now known old new noted c there number =

@@ -10,7 +10,7 @@ use Rattle.segment.specs.Warded.{Warded}
 use Rattle.lru_reduce.specs.Wards.{number_of, IsRisingBy, AreLive}
 use Rattle.lru_reduce.specs.Calls.{placed}
 use Rattle.lru_reduce.specs.Slots.{slot_number, with_side, sides_of, is_full, IsSlot, AreSlots, HasNoSlot, IsSpot}
-use Rattle.lru_reduce.specs.declared.table.Slot.{Slot}
+use Rattle.lru_reduce.specs.declared.slots.Slot.{Slot}
 use Rattle.lru_reduce.proofs.Keyed.{IsRisingBy-filter}
 
 -- What is true of each warden

@@ -3,8 +3,8 @@ use Rattle.std.proofs.Common.{◌≡◌, ℕ, List, Result, Ok, Err, IfOk, IfErr
 use Rattle.segment.specs.Warded.{Warded}
 use Rattle.lru_reduce.specs.Turns.{Wins, Loses}
 use Rattle.lru_reduce.specs.Slots.{SlotWins, SlotLoses}
-use Rattle.lru_reduce.specs.declared.table.Slot.{Slot}
-use Rattle.lru_reduce.specs.declared.table.Won.{Won}
+use Rattle.lru_reduce.specs.declared.slots.Slot.{Slot}
+use Rattle.lru_reduce.specs.declared.slots.Won.{Won}
 
 pub tried_won : (r : Result Won ℕ) (w : Won) (old new : Slot) → r ≡ Ok w → IfOk r (λ (o : Won). SlotWins o.pages o.known o.block old new) → SlotWins w.pages w.known w.block old new
 tried_won r w old new is wins = subst (λ (o : Result Won ℕ). IfOk o (λ (v : Won). SlotWins v.pages v.known v.block old new)) is wins

@@ -1,6 +1,6 @@
 pub mod Wards
 pub mod Calls
-pub mod Entries
+pub mod Uses
 pub mod Slots
 pub mod Reducing
 pub mod Measure

@@ -5,7 +5,7 @@ use Rattle.machine.specs.Reduction.{use_of}
 use Rattle.segment.specs.Tries.{IsTimely, known_use}
 use Rattle.segment.specs.Warded.{Warded}
 use Rattle.lru_reduce.specs.Wards.{IsRisingBy, candidate_of}
-use Rattle.lru_reduce.specs.declared.table.Slot.{Slot}
+use Rattle.lru_reduce.specs.declared.slots.Slot.{Slot}
 
 -- the number of a slot
 abbrev pub slot_number : Slot → ℕ

@@ -5,14 +5,14 @@ use Rattle.segment.specs.Warded.{Warded}
 use Rattle.machine.specs.Reduction.{Candidate, use_of}
 
 -- the live wardens, by rising number; how many more the order can take in without memory; and how many entries, live and
--- dead, its heap has
+-- dead, its queue has
 pub record Wards : Type 0 where
   pub sides : List Warded
   pub spare : ℕ
   pub entries : ℕ
 
 -- the live wardens, by rising number, and how many there is room for
-pub record Tabled : Type 0 where
+pub record Slotted : Type 0 where
   pub sides : List Warded
   pub room : ℕ
 

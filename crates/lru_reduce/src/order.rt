@@ -6,44 +6,45 @@ ghost use Rattle.lru_reduce.specs.Wards.{candidates_of, segments_of, IsNew};
 ghost use Rattle.lru_reduce.specs.Calls.{told, AddsSide, TakesLeast, Forgets, IsKnownUse, TriesOne};
 ghost use Rattle.lru_reduce.specs.Turns.{Wins, Loses};
 
-use crate::front::{refill, renew, settle};
-use crate::keys::Keys;
-use crate::table::{Table, Won};
+use crate::slots::{Slots, Won};
 use segment::{Purge, WardenSide};
 use std::alloc::Global;
 use std::marker::Model;
 use units::NoMemory;
+use use_queue::UseQueue;
 
 /// The live wardens of a manager. Contracts see them by rising number, and its spare places: how
-/// many more it can take in without memory. Their known uses stand in a heap whose entries die late:
+/// many more it can take in without memory. Their known uses stand in a queue whose entries die late:
 /// the entry of a known use that is no more stays until it comes to the front.
 #[derive(Drop)]
 pub struct Order {
     // In each of the two there are two places for each warden and for each spare place. So what is
     // dead leaves once for as many changes as there are wardens, and takes no memory.
-    table: Table,
-    keys: Keys,
+    slots: Slots,
+    uses: UseQueue,
     spare: u64,
 }
 
 impl Model for Order {
     ghost use Rattle.std.specs.Prelude.{◌*◌, ◌+◌, ◌^◌, ◌<◌, ◌≤◌, length};
     ghost use Rattle.lru_reduce.specs.Wards.{Wards, AreLive};
-    ghost use Rattle.lru_reduce.specs.Entries.{IsKeyed};
+    ghost use Rattle.lru_reduce.specs.Uses.{uses_of};
+    ghost use Rattle.use_queue.specs.Entries.{IsSoundQueue};
+    ghost use Rattle.std.specs.List.{Contains};
 
     ghost Value = { Wards };
 
     ghost view = { λ o. record {
-      sides = o.table.sides;
+      sides = o.slots.sides;
       spare = o.spare;
-      entries = length o.keys.keys;
+      entries = length o.uses.entries;
     } };
 
-    ghost invariant = { λ o. AreLive o.table.sides
-        × IsKeyed o.table.sides o.keys.keys
-        × (2 * (length o.table.sides + o.spare) ≤ o.table.room)
-        × (2 * (length o.table.sides + o.spare) ≤ o.keys.room)
-        × (2 * (length o.table.sides + o.spare) < 2 ^ 64) };
+    ghost invariant = { λ o. AreLive o.slots.sides
+        × IsSoundQueue (Contains (uses_of o.slots.sides)) o.uses.entries
+        × (2 * (length o.slots.sides + o.spare) ≤ o.slots.room)
+        × (2 * (length o.slots.sides + o.spare) ≤ o.uses.room)
+        × (2 * (length o.slots.sides + o.spare) < 2 ^ 64) };
 }
 
 impl Order {
@@ -52,17 +53,17 @@ impl Order {
         ensures { IsOkAnd result (λ order. (order.sides ≡ []) × (order.spare ≡ 0)) }
     {
         Ok(Order {
-            table: Table::new(alloc),
-            keys: Keys::new(alloc),
+            slots: Slots::new(alloc),
+            uses: UseQueue::new(alloc),
             spare: 0,
         })
     }
 
-    /// The entries of the heap: one for each live warden, and those that are dead.
+    /// The entries of the queue: one for each live warden, and those that are dead.
     pub fn entries(&self) -> u64
         ensures { result ≡ self.now.entries }
     {
-        self.keys.len() as u64
+        self.uses.len() as u64
     }
 
     /// Makes sure of at least `n` spare places, and never takes one away. Its wardens stay. After
@@ -77,30 +78,30 @@ impl Order {
         ensures ready { n ≤ self.old.spare → IsOk result }
         ensures entries { self.new.entries ≤ 2 * length self.new.sides }
     {
-        self.drop_dead();
+        self.tidy();
         if n <= self.spare {
             return Ok(());
         }
-        let Some(places) = twice(self.table.len(), n) else {
+        let Some(places) = twice(self.slots.len(), n) else {
             return Err(NoMemory);
         };
-        self.table.reserve(places)?;
-        self.keys.reserve(places)?;
+        self.slots.reserve(places)?;
+        self.uses.reserve(places)?;
         self.spare = n;
         Ok(())
     }
 
     /// Drops all dead entries where there are more dead ones than live ones.
-    fn drop_dead(&mut self)
+    fn tidy(&mut self)
         ensures sides { self.new.sides ≡ self.old.sides }
         ensures spare { self.new.spare ≡ self.old.spare }
         ensures entries { self.new.entries ≤ 2 * length self.new.sides }
     {
-        self.table.tidy();
-        let live = self.table.len();
-        let dead = self.keys.len().saturating_sub(live);
+        self.slots.tidy();
+        let live = self.slots.len();
+        let dead = self.uses.len().saturating_sub(live);
         if dead > live {
-            refill(&self.table, &mut self.keys);
+            self.uses.refill(&self.slots);
         }
     }
 
@@ -120,9 +121,9 @@ impl Order {
     {
         let id = side.id();
         let known = side.known().unwrap_or(0);
-        self.table.add(side);
+        self.slots.add(side);
         self.spare -= 1;
-        renew(&self.table, &mut self.keys, id, known);
+        self.uses.renew(&self.slots, id, known);
     }
 
     /// The number and the known use of the least, by known use and then by number, where a known use
@@ -130,7 +131,7 @@ impl Order {
     pub fn least(&self) -> Option<(u64, u64)>
         ensures { result ≡ option_map told (least (candidates_of self.now.sides)) }
     {
-        let (known, id) = self.keys.first()?;
+        let (known, id) = self.uses.first()?;
         Some((id, known))
     }
 
@@ -138,7 +139,7 @@ impl Order {
     pub(crate) fn least_use(&self) -> Option<u64>
         ensures { result ≡ option_map use_of (least (candidates_of self.now.sides)) }
     {
-        let (known, _) = self.keys.first()?;
+        let (known, _) = self.uses.first()?;
         Some(known)
     }
 
@@ -146,9 +147,9 @@ impl Order {
     pub fn take_least(&mut self) -> Option<WardenSide>
         ensures { TakesLeast result self.old self.new }
     {
-        let (_, id) = self.keys.first()?;
-        let side = self.table.take(id)?;
-        settle(&self.table, &mut self.keys);
+        let (_, id) = self.uses.first()?;
+        let side = self.slots.take(id)?;
+        self.uses.drop_dead(&self.slots);
         self.spare += 1;
         Some(side)
     }
@@ -167,10 +168,10 @@ impl Order {
     pub fn forget(&mut self, id: u64) -> bool
         ensures { Forgets id result self.old self.new }
     {
-        let Some(_side) = self.table.take(id) else {
+        let Some(_side) = self.slots.take(id) else {
             return false;
         };
-        settle(&self.table, &mut self.keys);
+        self.uses.drop_dead(&self.slots);
         true
     }
 
@@ -180,7 +181,7 @@ impl Order {
         ensures live { is_some result ≡ has_number (segments_of self.now.sides) id }
         ensures known { IfSome result (λ known. IsKnownUse id known self.now.sides) }
     {
-        self.table.known(id)
+        self.slots.known(id)
     }
 
     /// One purge try of a number at a moment. None exactly where the number is not live. After Taken
@@ -189,7 +190,7 @@ impl Order {
         requires { IsMoment now }
         ensures { TriesOne id now result self.old self.new }
     {
-        match self.try_number(id, now)? {
+        match self.try_purge(id, now)? {
             Ok(Won { block, .. }) => Some(Purge::Taken(block)),
             Err(known) => Some(Purge::Used { known }),
         }
@@ -199,12 +200,12 @@ impl Order {
     pub(crate) fn live(&self) -> usize
         ensures { result ≡ length self.now.sides }
     {
-        self.table.len()
+        self.slots.len()
     }
 
     /// One purge try of a number at a moment. None exactly where the number is not live, and nothing
     /// changed. Where it wins, the warden leaves; else it answers the known use.
-    pub(crate) fn try_number(&mut self, id: u64, now: u64) -> Option<Result<Won, u64>>
+    pub(crate) fn try_purge(&mut self, id: u64, now: u64) -> Option<Result<Won, u64>>
         requires moment { IsMoment now }
         ensures won { IfSome result (λ r. IfOk r (λ w.
             Wins id now w.pages w.known w.block self.old.sides self.new.sides)) }
@@ -214,14 +215,14 @@ impl Order {
         ensures none { IfNone result (self.new ≡ self.old) }
         ensures spare { self.new.spare ≡ self.old.spare }
     {
-        let tried = self.table.try_number(id, now)?;
+        let tried = self.slots.try_purge(id, now)?;
         match tried {
             Ok(won) => {
-                settle(&self.table, &mut self.keys);
+                self.uses.drop_dead(&self.slots);
                 Some(Ok(won))
             }
             Err(known) => {
-                renew(&self.table, &mut self.keys, id, known);
+                self.uses.renew(&self.slots, id, known);
                 Some(Err(known))
             }
         }
@@ -237,7 +238,7 @@ impl Order {
         ensures lost { IfErr result (λ known. Loses id now known self.old.sides self.new.sides) }
         ensures spare { self.new.spare ≡ self.old.spare }
     {
-        match self.try_number(id, now) {
+        match self.try_purge(id, now) {
             Some(tried) => tried,
             None => unreachable!(),
         }

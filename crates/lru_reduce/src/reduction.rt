@@ -7,7 +7,7 @@ ghost use Rattle.lru_reduce.specs.Turns.{IsDueOn};
 ghost use Rattle.lru_reduce.specs.Reducing.{ReducesTo, TellsEnd};
 
 use crate::order::Order;
-use crate::table::Won;
+use crate::slots::Won;
 use block_pool::Pool;
 use discard_book::{Book, Entry};
 

@@ -3,9 +3,9 @@
 ghost use Rattle.std.specs.Prelude.{◌≡◌, ◌≢◌, ◌<◌, true, false, length, slice_index_or, IfSome, IfNone};
 ghost use Rattle.lru_reduce.specs.Wards.{IsRisingBy};
 ghost use Rattle.lru_reduce.specs.Slots.{slot_number, IsSlotOf, HasNoSlot, IsSpot};
-ghost use Rattle.lru_reduce.specs.declared.table.Slot.{Slot};
+ghost use Rattle.lru_reduce.specs.declared.slots.Slot.{Slot};
 
-use crate::table::Slot;
+use crate::slots::Slot;
 
 /// The place of the first slot whose number is not less, or the end.
 pub(crate) fn spot_of(slots: &[Slot], id: u64) -> usize

@@ -5,12 +5,12 @@ use Rattle.std.proofs.lemmas.List.{get_or_past}
 use Rattle.units.specs.declared.TheConstants.{PAGE}
 use Rattle.machine.specs.History.{History, is_held}
 use Rattle.machine.specs.Answers.{is_plain, bytes_held}
-use Rattle.machine.specs.Kept.{Kept}
+use Rattle.machine.specs.KeptSegment.{KeptSegment}
 use Rattle.machine.specs.Segments.{Shows}
 use Rattle.units.proofs.Ranges.{all_pass, one_fails}
 
 -- a range whose last byte lies past the end of the segment
-pub bytes_past : (h : History) (s place count : ℕ) (kept : Kept) → Shows h s kept → is_plain h s ≡ true → 0 < count → length kept.held ≤ (place + (count - 1)) / PAGE → bytes_held h s place count ≡ false
+pub bytes_past : (h : History) (s place count : ℕ) (kept : KeptSegment) → Shows h s kept → is_plain h s ≡ true → 0 < count → length kept.held ≤ (place + (count - 1)) / PAGE → bytes_held h s place count ≡ false
 bytes_past h s place count kept w plain some far =
     one_fails (λ byte. is_held h s (byte / PAGE)) place count (place + (count - 1)) (omega arith) (omega arith)
     (sym (w.held plain ((place + (count - 1)) / PAGE)) ∙ get_or_past kept.held ((place + (count - 1)) / PAGE) false far)

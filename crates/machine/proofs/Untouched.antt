@@ -8,7 +8,7 @@ use Rattle.machine.specs.declared.event.Answer.TheVariants.{Granted, Held, Idle,
 use Rattle.machine.specs.History.{History, is_begun, pages_of, is_ended, is_gone, is_held, stamp_of, known_of, put, left_of, number_of}
 use Rattle.units.specs.Range.{is_within}
 use Rattle.machine.specs.Answers.{is_plain, is_live}
-use Rattle.machine.specs.Kept.{Kept}
+use Rattle.machine.specs.KeptSegment.{KeptSegment}
 use Rattle.machine.specs.Segments.{Shows, IsUnknown}
 
 pub begun_other : (h : History) (e : Event) (a : Answer) (s : ℕ) → (number_of e == s) ≡ false → is_begun ((e, a) ∷ h) s ≡ is_begun h s
@@ -64,7 +64,7 @@ pub live_other : (h : History) (e : Event) (a : Answer) (s : ℕ) → (number_of
 live_other h e a s ne =
     ap (λ b. b && not (is_gone ((e, a) ∷ h) s)) (plain_other h e a s ne) ∙ ap (λ b. is_plain h s && not b) (gone_other h e a s ne)
 
-pub shows_other : (h : History) (e : Event) (a : Answer) (s : ℕ) (kept : Kept) → (number_of e == s) ≡ false → Shows h s kept → Shows ((e, a) ∷ h) s kept
+pub shows_other : (h : History) (e : Event) (a : Answer) (s : ℕ) (kept : KeptSegment) → (number_of e == s) ≡ false → Shows h s kept → Shows ((e, a) ∷ h) s kept
 shows_other h e a s kept ne w = record {
   begun = begun_other h e a s ne ∙ w.begun;
   pages = λ plain. w.pages (sym (plain_other h e a s ne) ∙ plain) ∙ sym (pages_other h e a s ne);
@@ -87,7 +87,7 @@ unknown_other h e a s ne w = record {
   ended = ended_other h e a s ne ∙ w.ended;
 }
 
-pub shows_misuse : (h : History) (e : Event) (s : ℕ) (kept : Kept) → Shows h s kept → Shows ((e, Misuse) ∷ h) s kept
+pub shows_misuse : (h : History) (e : Event) (s : ℕ) (kept : KeptSegment) → Shows h s kept → Shows ((e, Misuse) ∷ h) s kept
 unfolding is_begun pages_of is_ended is_gone is_held stamp_of known_of left_of
 shows_misuse h (Grant id client pages) s kept w = record { begun = w.begun; pages = w.pages; held = w.held; stamp = w.stamp; known = w.known; bytes = w.bytes; gone = w.gone; ended = w.ended }
 shows_misuse h _ s kept w = record { begun = w.begun; pages = w.pages; held = w.held; stamp = w.stamp; known = w.known; bytes = w.bytes; gone = w.gone; ended = w.ended }

@@ -12,7 +12,7 @@ use Rattle.machine.specs.declared.event.Answer.TheVariants.{Granted, Held, Gone,
 use Rattle.machine.specs.History.{History, number_of, is_begun, pages_of, is_ended, is_gone, is_held, stamp_of, known_of}
 use Rattle.machine.specs.Answers.{answered_after, answered, answer_of, are_free, are_held, bytes_held, staying, held_count, unlocked, tried}
 use Rattle.units.specs.Moment.{is_moment}
-use Rattle.machine.specs.Kept.{Kept}
+use Rattle.machine.specs.KeptSegment.{KeptSegment}
 use Rattle.machine.specs.Segments.{Shows, IsUnknown, ShowsAll, fresh, kept_at}
 use Rattle.machine.proofs.Untouched.{shows_other, unknown_other, shows_misuse, unknown_misuse}
 use Rattle.machine.proofs.Steps.{shows_grant}
@@ -29,14 +29,14 @@ unfolding answered_after is_begun pages_of is_ended is_gone is_held stamp_of kno
 none_yet s = record { begun = refl; pages = refl; held = λ page. refl; stamp = refl; known = refl; gone = refl; ended = refl }
 
 -- what a history makes of a number, where there is something of it or not
-abbrev pub ShowsAt : History → ℕ → Option Kept → Type 0
+abbrev pub ShowsAt : History → ℕ → Option KeptSegment → Type 0
 ShowsAt h s found = MatchOption found (IsUnknown h s) (λ kept. Shows h s kept)
 
-pub at_other : (h : History) (e : Event) (a : Answer) (s : ℕ) (found : Option Kept) → (number_of e == s) ≡ false → ShowsAt h s found → ShowsAt ((e, a) ∷ h) s found
+pub at_other : (h : History) (e : Event) (a : Answer) (s : ℕ) (found : Option KeptSegment) → (number_of e == s) ≡ false → ShowsAt h s found → ShowsAt ((e, a) ∷ h) s found
 at_other h e a s None ne w = unknown_other h e a s ne w
 at_other h e a s (Some kept) ne w = shows_other h e a s kept ne w
 
-pub at_misuse : (h : History) (e : Event) (s : ℕ) (found : Option Kept) → ShowsAt h s found → ShowsAt ((e, Misuse) ∷ h) s found
+pub at_misuse : (h : History) (e : Event) (s : ℕ) (found : Option KeptSegment) → ShowsAt h s found → ShowsAt ((e, Misuse) ∷ h) s found
 at_misuse h e s None w = unknown_misuse h e s w
 at_misuse h e s (Some kept) w = shows_misuse h e s kept w
 
@@ -45,7 +45,7 @@ at_is : (a b : ℕ) → is_at (nat_cmp a) b ≡ (a == b)
 at_is a b = grind (arith, nat_tests)
 
 -- the segments after an event on one of them
-pub all_after : (h : History) (e : Event) (a : Answer) (old new : List (ℕ × Kept)) (id : ℕ) (kept : Kept) → id ≡ number_of e
+pub all_after : (h : History) (e : Event) (a : Answer) (old new : List (ℕ × KeptSegment)) (id : ℕ) (kept : KeptSegment) → id ≡ number_of e
     → ((q : ℕ) → kept_at new q ≡ cond (is_at (nat_cmp id) q) (Some kept) (kept_at old q))
     → ShowsAll h old → Shows ((e, a) ∷ h) id kept → ShowsAll ((e, a) ∷ h) new
 all_after h e a old new id kept number updates w shows s =
@@ -59,10 +59,10 @@ all_after h e a old new id kept number updates w shows s =
     (cases_eq id s)
 
 -- what is found under a number is what the history made of it
-pub shows_found : (h : History) (segments : List (ℕ × Kept)) (id : ℕ) (kept : Kept) → Some kept ≡ kept_at segments id → ShowsAll h segments → Shows h id kept
+pub shows_found : (h : History) (segments : List (ℕ × KeptSegment)) (id : ℕ) (kept : KeptSegment) → Some kept ≡ kept_at segments id → ShowsAll h segments → Shows h id kept
 shows_found h segments id kept found w = subst (λ at. ShowsAt h id at) (sym found) (w id)
 
-pub unknown_found : (h : History) (segments : List (ℕ × Kept)) (id : ℕ) → kept_at segments id ≡ None → ShowsAll h segments → IsUnknown h id
+pub unknown_found : (h : History) (segments : List (ℕ × KeptSegment)) (id : ℕ) → kept_at segments id ≡ None → ShowsAll h segments → IsUnknown h id
 unknown_found h segments id found w = subst (λ at. ShowsAt h id at) found (w id)
 
 -- an event on a number that was not granted is a misuse, but a Grant that may be
@@ -117,7 +117,7 @@ held_fresh (suc pages) (suc page) = held_fresh pages page ∙ one_less page page
     one_less : (a b : ℕ) → nat_lt a b ≡ nat_lt (suc a) (suc b)
     one_less a b = grind (arith, nat_tests)
 
-pub shows_fresh : (h : History) (s client pages : ℕ) (kept : Kept) → IsUnknown h s → kept ≡ fresh pages → Shows ((Grant s client pages, Granted s) ∷ h) s kept
+pub shows_fresh : (h : History) (s client pages : ℕ) (kept : KeptSegment) → IsUnknown h s → kept ≡ fresh pages → Shows ((Grant s client pages, Granted s) ∷ h) s kept
 shows_fresh h s client pages kept w new =
     subst (λ k. Shows ((Grant s client pages, Granted s) ∷ h) s k) (sym new)
     (shows_grant h s client pages (fresh pages) w (length-replicate pages true) (held_fresh pages) refl refl refl refl refl)

@@ -1,6 +1,6 @@
 pub mod History
 pub mod Answers
-pub mod Kept
+pub mod KeptSegment
 pub mod Segments
 pub mod Word
 pub mod Laws

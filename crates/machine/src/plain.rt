@@ -21,9 +21,9 @@ pub struct PlainSegments {
 
 impl Model for PlainSegments {
     ghost use Rattle.std.specs.Prelude.{ℕ, List};
-    ghost use Rattle.machine.specs.Kept.{Kept};
+    ghost use Rattle.machine.specs.KeptSegment.{KeptSegment};
 
-    ghost Value = { List (ℕ × Kept) };
+    ghost Value = { List (ℕ × KeptSegment) };
 
     ghost view = { λ s. s.segments.entries };
 }

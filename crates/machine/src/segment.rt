@@ -29,9 +29,9 @@ pub(crate) struct Segment {
 impl Model for Segment {
     ghost use Rattle.std.specs.Prelude.{◌≡◌, ◌*◌, ◌≤◌, true, if◌then◌else◌, vec_len, vec_capacity, count_by};
     ghost use Rattle.units.specs.declared.TheConstants.{PAGE, MOST_PAGES};
-    ghost use Rattle.machine.specs.Kept.{Kept};
+    ghost use Rattle.machine.specs.KeptSegment.{KeptSegment};
 
-    ghost Value = { Kept };
+    ghost Value = { KeptSegment };
 
     ghost view = { λ s. record { held = s.held.items; stamp = s.stamp; known = s.known; bytes = s.bytes.items; gone = s.gone; ended = s.ended } };
 

@@ -7,7 +7,7 @@ use Rattle.std.specs.Prelude.{IfSome, option_map}
 use Rattle.discard_book.specs.declared.entry.Entry.{Entry}
 use Rattle.manager_state.specs.Managed.{Managed}
 use Rattle.manager.specs.Tokens.{Tokens, with_grant, with_round}
-use Rattle.manager.specs.Grows.{Grows, IsKept, Kept}
+use Rattle.manager.specs.Grows.{Grows, IsSoundDesk, GrantsNone}
 use Rattle.discard_book.specs.Live.{grants}
 use Rattle.manager.specs.Counted.{counted}
 use Rattle.manager.specs.Grows.{is_round}
@@ -26,8 +26,8 @@ some_map f (Some t) = refl
 -- the state grew, and the totals were counted on by as much
 kept_on : (a b : ℕ) (f : Tokens → Tokens) → ((t : Tokens) → (f t).grants ≡ t.grants + a) → ((t : Tokens) → (f t).rounds ≡ t.rounds + b)
     → (limit : ℕ) (handed : List Entry) (counts : Bool) (totals totals' : Option Tokens) (old new : Managed)
-    → IsKept limit handed counts totals old → new.limit ≡ old.limit → Grows old.limit a b old.entries new.entries → totals' ≡ option_map f totals
-    → IsKept limit handed counts totals' new
+    → IsSoundDesk limit handed counts totals old → new.limit ≡ old.limit → Grows old.limit a b old.entries new.entries → totals' ≡ option_map f totals
+    → IsSoundDesk limit handed counts totals' new
 kept_on a b f fg fr limit handed counts totals totals' old new was l grown e = record {
   same = l ∙ was.same;
   account = record {
@@ -45,19 +45,19 @@ same_map None = refl
 same_map (Some t) = refl
 
 pub kept_same : (limit : ℕ) (handed : List Entry) (counts : Bool) (totals : Option Tokens) (old new : Managed)
-    → IsKept limit handed counts totals old → new.limit ≡ old.limit → Grows old.limit 0 0 old.entries new.entries → IsKept limit handed counts totals new
+    → IsSoundDesk limit handed counts totals old → new.limit ≡ old.limit → Grows old.limit 0 0 old.entries new.entries → IsSoundDesk limit handed counts totals new
 kept_same limit handed counts totals old new was l grown =
     kept_on 0 0 (λ t. t) (λ t. omega arith) (λ t. omega arith) limit handed counts totals totals old new was l grown (same_map totals)
 
 pub kept_grant : (limit : ℕ) (handed : List Entry) (counts : Bool) (totals totals' : Option Tokens) (old new : Managed)
-    → IsKept limit handed counts totals old → new.limit ≡ old.limit → Grows old.limit 1 0 old.entries new.entries → totals' ≡ option_map with_grant totals
-    → IsKept limit handed counts totals' new
+    → IsSoundDesk limit handed counts totals old → new.limit ≡ old.limit → Grows old.limit 1 0 old.entries new.entries → totals' ≡ option_map with_grant totals
+    → IsSoundDesk limit handed counts totals' new
 kept_grant limit handed counts totals totals' old new was l grown e =
     kept_on 1 0 with_grant (λ t. refl) (λ t. omega arith) limit handed counts totals totals' old new was l grown e
 
 pub kept_round : (limit : ℕ) (handed : List Entry) (counts : Bool) (totals totals' : Option Tokens) (old new : Managed)
-    → IsKept limit handed counts totals old → new.limit ≡ old.limit → Grows old.limit 0 1 old.entries new.entries → totals' ≡ option_map with_round totals
-    → IsKept limit handed counts totals' new
+    → IsSoundDesk limit handed counts totals old → new.limit ≡ old.limit → Grows old.limit 0 1 old.entries new.entries → totals' ≡ option_map with_round totals
+    → IsSoundDesk limit handed counts totals' new
 kept_round limit handed counts totals totals' old new was l grown e =
     kept_on 0 1 with_round (λ t. omega arith) (λ t. refl) limit handed counts totals totals' old new was l grown e
 
@@ -86,14 +86,14 @@ below_rounds : (totals : Option Tokens) (n : ℕ) → n + 1 < 2 ^ 64 → IfSome 
 below_rounds None n l h = tt
 below_rounds (Some t) n l h = let k = h in omega arith
 
-pub few_grants : (limit : ℕ) (handed : List Entry) (counts : Bool) (totals : Option Tokens) (old : Managed) (n : ℕ) → IsKept limit handed counts totals old → n ≡ grants old.entries → n + 1 < 2 ^ 64
+pub few_grants : (limit : ℕ) (handed : List Entry) (counts : Bool) (totals : Option Tokens) (old : Managed) (n : ℕ) → IsSoundDesk limit handed counts totals old → n ≡ grants old.entries → n + 1 < 2 ^ 64
     → IfSome totals (λ t. t.grants + 1 < 2 ^ 64)
 few_grants limit handed counts totals old n was e l =
     let g = grows_grants limit was.account.granted was.account.rounds handed old.entries was.account.grows in
     below totals n l (few_told totals was.account.granted was.account.rounds n (omega arith) was.account.told)
 
 -- an enforcement was entered, so the totals have room for it
-pub few_rounds : (limit : ℕ) (handed : List Entry) (counts : Bool) (totals : Option Tokens) (old : Managed) (after : List Entry) (n : ℕ) → IsKept limit handed counts totals old
+pub few_rounds : (limit : ℕ) (handed : List Entry) (counts : Bool) (totals : Option Tokens) (old : Managed) (after : List Entry) (n : ℕ) → IsSoundDesk limit handed counts totals old
     → Grows old.limit 0 1 old.entries after → n ≡ length after → n < 2 ^ 64 → IfSome totals (λ t. t.rounds + 1 < 2 ^ 64)
 few_rounds limit handed counts totals old after n was grown e l =
     let both = grows_more limit was.account.granted was.account.rounds 0 1 handed old.entries after was.account.grows (subst (λ (k : ℕ). Grows k 0 1 old.entries after) was.same grown) in
@@ -107,7 +107,7 @@ pub grows_fewer : (limit g r : ℕ) (xs ys : List Entry) → Grows limit g r xs 
 grows_fewer limit g r xs ys h = record { more = h.more; follows = h.follows; carry = h.carry; granted_is = h.granted_is; rounds_are = omega arith }
 
 -- the totals tell what the book gained
-pub whole_told : (limit : ℕ) (handed : List Entry) (counts : Bool) (totals : Option Tokens) (t : Tokens) (state : Managed) → IsKept limit handed counts totals state → totals ≡ Some t
+pub whole_told : (limit : ℕ) (handed : List Entry) (counts : Bool) (totals : Option Tokens) (t : Tokens) (state : Managed) → IsSoundDesk limit handed counts totals state → totals ≡ Some t
     → Grows limit t.grants t.rounds handed state.entries
 whole_told limit handed counts totals t state k e =
     let told : (t.grants ≡ k.account.granted) × (t.rounds ≡ k.account.rounds) = subst (λ (o : Option Tokens). IfSome o (λ u. (u.grants ≡ k.account.granted) × (u.rounds ≡ k.account.rounds))) e k.account.told in
@@ -116,7 +116,7 @@ whole_told limit handed counts totals t state k e =
 
 -- what was fixed at the making
 pub kept_new : (limit : ℕ) (handed : List Entry) (counts : Bool) (totals : Option Tokens) (state : Managed) → state.limit ≡ limit → state.entries ≡ handed → is_some totals ≡ counts
-    → IfSome totals (λ t. (t.grants ≡ 0) × (t.rounds ≡ 0)) → IsKept limit handed counts totals state
+    → IfSome totals (λ t. (t.grants ≡ 0) × (t.rounds ≡ 0)) → IsSoundDesk limit handed counts totals state
 kept_new limit handed counts totals state l e c f = record {
   same = l;
   account = record { granted = 0; rounds = 0; grows = subst (λ (es : List Entry). Grows limit 0 0 handed es) (sym e) (grows_none limit handed); told = f };
@@ -124,5 +124,5 @@ kept_new limit handed counts totals state l e c f = record {
 }
 
 -- a call of the state that grants nothing
-pub kept_by : (limit : ℕ) (handed : List Entry) (counts : Bool) (totals : Option Tokens) (old new : Managed) → IsKept limit handed counts totals old → Kept old new → IsKept limit handed counts totals new
+pub kept_by : (limit : ℕ) (handed : List Entry) (counts : Bool) (totals : Option Tokens) (old new : Managed) → IsSoundDesk limit handed counts totals old → GrantsNone old new → IsSoundDesk limit handed counts totals new
 kept_by limit handed counts totals old new was k = kept_same limit handed counts totals old new was k.1 (k.0 old.limit)

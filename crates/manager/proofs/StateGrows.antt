@@ -14,28 +14,28 @@ use Rattle.manager_state.specs.Managed.{Managed}
 use Rattle.manager_state.specs.Clients.{is_with}
 use Rattle.manager_state.specs.Calls.{Reduces, MakesRoom, Grants, GrantsWith, RunsOut, RunsOutWith, RunsShort}
 use Rattle.manager.specs.Counted.{count_one, counted}
-use Rattle.manager.specs.Grows.{Grows, Kept, GrantsOne}
+use Rattle.manager.specs.Grows.{Grows, GrantsNone, GrantsOne}
 use Rattle.manager.specs.Brought.{IsFresh}
 use Rattle.manager.proofs.Growth.{grows_none, grows_more, grows_granted, grows_back, grows_reduced, grows_round, grows_grants}
 
-pub same_kept : (old new : Managed) → new.entries ≡ old.entries → new.limit ≡ old.limit → Kept old new
+pub same_kept : (old new : Managed) → new.entries ≡ old.entries → new.limit ≡ old.limit → GrantsNone old new
 same_kept old new e l = (λ limit. subst (λ (es : List Entry). Grows limit 0 0 old.entries es) (sym e) (grows_none limit old.entries), l)
 
-pub then_kept : (first second third : Managed) → Kept first second → Kept second third → Kept first third
+pub then_kept : (first second third : Managed) → GrantsNone first second → GrantsNone second third → GrantsNone first third
 then_kept first second third a b = (λ limit. grows_more limit 0 0 0 0 first.entries second.entries third.entries (a.0 limit) (b.0 limit), b.1 ∙ a.1)
 
-pub reduces_kept : (to now : ℕ) (told : Reduced) (old new : Managed) → Reduces to now told old new → Kept old new
+pub reduces_kept : (to now : ℕ) (told : Reduced) (old new : Managed) → Reduces to now told old new → GrantsNone old new
 reduces_kept to now told old new r = (λ limit. grows_reduced limit (purged_by (tries now (candidates_of old.sides) r.reduces.words)) to now (total_pages new.sides) told.least old.entries new.entries r.reduces.entries, r.limit)
 
 -- a reduction to the state's limit is an enforcement
 pub reduces_round : (to now : ℕ) (told : Reduced) (old new : Managed) → Reduces to now told old new → Grows to 0 1 old.entries new.entries
 reduces_round to now told old new r = grows_round (purged_by (tries now (candidates_of old.sides) r.reduces.words)) to now (total_pages new.sides) told.least old.entries new.entries r.reduces.entries
 
-makes_kept : (b : Bool) (to now : ℕ) (old new : Managed) → MatchBool b ((told : Reduced) × Reduces to now told old new) (new ≡ old) → Kept old new
+makes_kept : (b : Bool) (to now : ℕ) (old new : Managed) → MatchBool b ((told : Reduced) × Reduces to now told old new) (new ≡ old) → GrantsNone old new
 makes_kept true to now old new h = reduces_kept to now h.0 old new h.1
-makes_kept false to now old new h = subst (λ (m : Managed). Kept old m) (sym h) (same_kept old old refl refl)
+makes_kept false to now old new h = subst (λ (m : Managed). GrantsNone old m) (sym h) (same_kept old old refl refl)
 
-pub room_kept : (pages now : ℕ) (old new : Managed) → MakesRoom pages now old new → Kept old new
+pub room_kept : (pages now : ℕ) (old new : Managed) → MakesRoom pages now old new → GrantsNone old new
 room_kept pages now old new h = makes_kept (nat_lt (room old.limit pages) _) (room old.limit pages) now old new h
 
 -- room was made for a grant, and its Grant was entered
@@ -68,13 +68,13 @@ granted_with client pages block now side old new fresh g =
       zero_bytes = subst (λ (b : List ℕ). IsZero pages b) (sym (ap (λ (o : Owned). o.bytes) is)) fresh.0;
     }
 
-runs_short : (pages : ℕ) (old new : Managed) → RunsShort pages old new → Kept old new
+runs_short : (pages : ℕ) (old new : Managed) → RunsShort pages old new → GrantsNone old new
 runs_short pages old new h = ⊎_elim
     (λ (e : new ≡ old). same_kept old new (ap (λ (m : Managed). m.entries) e) (ap (λ (m : Managed). m.limit) e))
     (λ e. same_kept old new (ap (λ (m : Managed). m.entries) e) (ap (λ (m : Managed). m.limit) e))
     h
 
-pub runs_out_kept : (pages now : ℕ) (old new : Managed) → RunsOut pages now old new → Kept old new
+pub runs_out_kept : (pages now : ℕ) (old new : Managed) → RunsOut pages now old new → GrantsNone old new
 runs_out_kept pages now old new r = then_kept old r.between new
     (⊎_elim
     (λ (e : r.between ≡ old). same_kept old r.between (ap (λ (m : Managed). m.entries) e) (ap (λ (m : Managed). m.limit) e))
@@ -83,7 +83,7 @@ runs_out_kept pages now old new r = then_kept old r.between new
     (runs_short pages r.between new r.short)
 
 -- a grant with a block that was brought, out of memory
-pub runs_out_with_kept : (block : List ℕ) (now : ℕ) (old new : Managed) → RunsOutWith block now old new → Kept old new
+pub runs_out_with_kept : (block : List ℕ) (now : ℕ) (old new : Managed) → RunsOutWith block now old new → GrantsNone old new
 runs_out_with_kept block now old new r = ⊎_elim
     (λ (e : new ≡ old). same_kept old new (ap (λ (m : Managed). m.entries) e) (ap (λ (m : Managed). m.limit) e))
     (λ h. room_kept (page_count block) now old new h)
@@ -100,6 +100,6 @@ counted_grows limit book (p ∷ ps) = grows_more limit 0 0 0 0 book (count_one b
     (one_counted limit (is_with p.0 p.1 book && has_number (live book) p.1) p.1 book) (counted_grows limit (count_one book p) ps)
 
 -- a reduction that may be out of memory
-pub reduced_kept : {E : Type 0} (to now : ℕ) (result : Result Reduced E) (old new : Managed) → IfOk result (λ told. Reduces to now told old new) → OnErr result (new ≡ old) → Kept old new
+pub reduced_kept : {E : Type 0} (to now : ℕ) (result : Result Reduced E) (old new : Managed) → IfOk result (λ told. Reduces to now told old new) → OnErr result (new ≡ old) → GrantsNone old new
 reduced_kept to now (Ok told) old new ok err = reduces_kept to now told old new ok
 reduced_kept to now (Err e) old new ok err = same_kept old new (ap (λ (m : Managed). m.entries) err) (ap (λ (m : Managed). m.limit) err)

@@ -43,14 +43,14 @@ pub record IsAccounted (limit : ℕ) (handed : List Entry) (totals : Option Toke
 
 -- What lies behind a manager's lock keeps what was fixed when the manager was made: the limit, the entries handed in, and whether
 -- totals are counted.
-pub record IsKept (limit : ℕ) (handed : List Entry) (counts : Bool) (totals : Option Tokens) (state : Managed) : Type 0 where
+pub record IsSoundDesk (limit : ℕ) (handed : List Entry) (counts : Bool) (totals : Option Tokens) (state : Managed) : Type 0 where
   pub same : state.limit ≡ limit
   pub account : IsAccounted limit handed totals state.entries
   pub counted : is_some totals ≡ counts
 
 -- the book grew under any limit by no Grant, and the state's limit stays
-abbrev pub Kept : Managed → Managed → Type 0
-Kept old new = ((limit : ℕ) → Grows limit 0 0 old.entries new.entries) × (new.limit ≡ old.limit)
+abbrev pub GrantsNone : Managed → Managed → Type 0
+GrantsNone old new = ((limit : ℕ) → Grows limit 0 0 old.entries new.entries) × (new.limit ≡ old.limit)
 
 -- the book grew by one Grant, of this number, which is one more than it had Grants; the state's limit stays
 pub record GrantsOne (id : ℕ) (old new : Managed) : Type 0 where

@@ -6,7 +6,7 @@ ghost use Rattle.discard_book.specs.Legal.{IsLegal};
 ghost use Rattle.return_queue.specs.Order.{Starts, notes, InOrder, AllTaken};
 ghost use Rattle.manager_state.specs.Calls.{limit_under};
 ghost use Rattle.manager.specs.Tokens.{with_grant, with_round};
-ghost use Rattle.manager.specs.Grows.{Grows, IsAccounted, Kept, GrantsOne};
+ghost use Rattle.manager.specs.Grows.{Grows, IsAccounted, GrantsNone, GrantsOne};
 ghost use Rattle.manager.specs.Brought.{IsBrought};
 ghost use Rattle.manager.specs.Ends.{HasEnded};
 ghost use Rattle.manager.specs.declared.shares.TheConstants.{PARTS};
@@ -37,13 +37,13 @@ pub(crate) struct Behind<R: Returns, F: Fixed, G: Ledger, E: Ledger> {
 }
 
 impl<R: Returns, F: Fixed, G: Ledger, E: Ledger> Model for Behind<R, F, G, E> {
-    ghost use Rattle.manager.specs.Grows.{IsKept};
+    ghost use Rattle.manager.specs.Grows.{IsSoundDesk};
 
     ghost Value = { R.Taker };
 
     ghost view = { λ b. b.desk.taker };
 
-    ghost invariant = { λ b. IsKept F.limit F.handed F.counts b.totals b.desk.state
+    ghost invariant = { λ b. IsSoundDesk F.limit F.handed F.counts b.totals b.desk.state
         × R.is_taker F.queue b.desk.taker };
 }
 
@@ -54,7 +54,7 @@ pub(crate) struct Settled(());
 
 /// How many passes were drained. Only `Behind::drain` counts one, so that where this count is told, no
 /// pass can be left out.
-#[derive(Debug, Drop)]
+#[derive(Drop)]
 pub struct Drains {
     passes: u64,
 }
@@ -110,7 +110,7 @@ fn grant_in_turn(
         GrantsOne side.id state.old state.new)) }
     ensures none { IfOk result (λ turn. IfNone turn (state.new ≡ state.old)) }
     ensures made { state.new.stock.made ≡ state.old.stock.made }
-    ensures err { OnErr result (Kept state.old state.new) }
+    ensures err { OnErr result (GrantsNone state.old state.new) }
 {
     if let Some(block) = block {
         return Ok(Some(state.grant_with(alloc, client, block, now)?));
@@ -234,6 +234,7 @@ impl<R: Returns, F: Fixed, G: Ledger, E: Ledger> Behind<R, F, G, E> {
         ensures err { OnErr result (shares.new ≡ shares.old) }
     {
         let told = self.desk.state.enforce(alloc, now)?;
+        // For the proof: calls up the clause `few` of `entry_count`.
         entry_count(&self.desk.state);
         count_round(&mut self.totals, shares);
         Ok(told)
@@ -282,6 +283,7 @@ impl<R: Returns, F: Fixed, G: Ledger, E: Ledger> Behind<R, F, G, E> {
     {
         let Behind { desk, .. } = self;
         let Desk { state, .. } = desk;
+        // For the proof: calls up the clause `legal` of `State::book`.
         let _book = state.book();
         state
     }
@@ -300,6 +302,7 @@ impl<R: Returns, F: Fixed, G: Ledger, E: Ledger> Behind<R, F, G, E> {
         };
         totals.audit(&mut whole);
         let Desk { state, .. } = desk;
+        // For the proof: calls up the clause `legal` of `State::book`.
         let _book = state.book();
         state
     }

@@ -2,9 +2,18 @@
 //! A manager of soft memory that many threads share: a state behind a lock, handles that grant and
 //! take back, and a queue of returns that waits for no lock.
 //!
-//! What lies behind the lock keeps its meaning at every moment: the book is legal and grew from
-//! the entries handed in under one limit, and the totals of two ledgers are the grants and the
-//! enforcements that the handles count.
+//! Promises: whenever the lock is free, the book is legal and grew from the entries handed in, its
+//! limit is the one with which the manager was made, and each grant since carries it. Where the manager
+//! has ledgers, the shares of all handles together count the grants and the enforcements of the book.
+//!
+//! A `Desk` is the state and the queue's one taker; it counts notes in the order in which they were
+//! given. Behind the lock stands the desk with the totals of two ledgers (`Behind`); a handle counts
+//! what it does in its own shares. What is fixed when a manager is made (the limit, the entries handed
+//! in, the queue's name) is a set of ghost values that its maker picks (`Fixed`).
+//!
+//! A handle's numbers rise, since it compares them under the lock before it grants. No block is made
+//! under the lock. Two tokens make sure that no step is left out: a handle's grant owes a `Settled`,
+//! which only counting the queue's notes makes, and `Drains` rises only where a pass is drained.
 
 mod behind;
 mod desk;
@@ -12,8 +21,6 @@ mod fixed;
 mod handle;
 mod manager;
 mod shares;
-#[cfg(test)]
-mod tests;
 
 pub use behind::Drains;
 pub use desk::Desk;

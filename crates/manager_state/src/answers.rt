@@ -1,5 +1,5 @@
 /// What a return answers.
-#[derive(Clone, Copy, Debug, PartialEq, Eq)]
+#[derive(Clone, Copy, PartialEq)]
 pub enum Back {
     /// The segment was live, and is counted off.
     Counted,
@@ -10,7 +10,7 @@ pub enum Back {
 }
 
 /// What a purge try on one segment answers.
-#[derive(Clone, Copy, Debug, PartialEq, Eq)]
+#[derive(Clone, Copy, PartialEq)]
 pub enum Tried {
     /// The segment is purged.
     Taken,
@@ -21,7 +21,7 @@ pub enum Tried {
 }
 
 /// How scarce memory is.
-#[derive(Clone, Copy, Debug, PartialEq, Eq)]
+#[derive(Clone, Copy)]
 pub enum Level {
     /// Half the limit is to be left.
     Moderate,

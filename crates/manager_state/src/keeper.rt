@@ -143,6 +143,7 @@ impl Keeper {
         ensures drawn { AreDrawn (live self.now.book.entries) (grants self.now.book.entries) }
         ensures new { IsNew result self.now.order.sides }
     {
+        // For the proof: calls up the clause `live` of `Book::entries`.
         let _entries = self.book.entries();
         self.book.grants() + 1
     }
@@ -251,6 +252,7 @@ impl Keeper {
         ensures pool { self.new.pool ≡ self.old.pool }
         ensures clients { vec_len self.new.clients ≡ vec_len self.old.clients }
     {
+        // For the proof: calls up the clause `live` of `Book::entries`.
         let _entries = self.book.entries();
         self.order.forget(id);
         self.book.add(Entry::Back { id });
@@ -280,7 +282,7 @@ impl Keeper {
     }
 
     /// Makes one purge try on a number at a moment. The block of a purged segment goes to the pool.
-    pub(crate) fn try_one(&mut self, id: u64, now: u64) -> Tried
+    pub(crate) fn try_purge(&mut self, id: u64, now: u64) -> Tried
         requires { IsMoment now }
         ensures { (limit : ℕ) → TriesOne id now result
             (managed limit self.old.book self.old.order self.old.pool)
@@ -323,7 +325,9 @@ impl Keeper {
             (managed limit self.old.book self.old.order self.old.pool)
             (managed limit self.new.book self.new.order self.new.pool) }
     {
+        // For the proof: calls up the clause `live` of `Book::entries`.
         let _entries = self.book.entries();
+        // For the proof: calls up the clause `few` of `Book::grants`.
         let _drawn = self.book.grants();
         let mut removed = 0;
         let mut last = 0;

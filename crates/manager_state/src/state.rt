@@ -118,7 +118,7 @@ impl State {
         requires { IsMoment now }
         ensures { TriesOne id now result self.old self.new }
     {
-        self.keeper.try_one(id, now)
+        self.keeper.try_purge(id, now)
     }
 
     /// Reduces granted pages to a limit at a moment. `NoMemory` leaves all as before.
@@ -193,6 +193,7 @@ impl State {
         ensures legal { IsLegal self.now.entries }
         ensures live { live self.now.entries ≡ segments_of self.now.sides }
     {
+        // For the proof: calls up the clause `legal` of `Book::entries`.
         let _entries = self.keeper.book.entries();
         &self.keeper.book
     }

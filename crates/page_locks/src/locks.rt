@@ -8,7 +8,7 @@ use units::NoMemory;
 use units::pages::{all_are, set_all};
 
 /// Which pages of a segment are locked. Pages are counted from 0.
-#[derive(Debug, Drop)]
+#[derive(Drop)]
 pub struct PageLocks {
     /// For each page, whether it is locked.
     locked: Vec<bool>,

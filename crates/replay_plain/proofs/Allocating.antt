@@ -15,7 +15,7 @@ use Rattle.span_heap.specs.Run.{pages_of}
 use Rattle.span_heap.specs.Runs.{front_of}
 use Rattle.span_heap.specs.Changes.{whole_of}
 use Rattle.script_heaps.specs.Holding.{Holding, has, lost, lost_all, purged, told, adopted, without_all, all_free}
-use Rattle.script_heaps.specs.Heaps.{Heaps, with_client, with_next, with_owned, taker_of, next_piece}
+use Rattle.script_heaps.specs.Heaps.{Heaps, with_client, with_next, with_owned, owner_of, next_piece}
 use Rattle.script_heaps.specs.declared.heaps.ScriptHeaps.{ScriptHeaps}
 use Rattle.script_heaps.specs.Showing.{Shows}
 use Rattle.replay_plain.specs.declared.run.PlainRun.{PlainRun}
@@ -190,7 +190,7 @@ after_es es run kept state client change w changes =
 
 -- a piece's segment was found gone, and leaves
 pub piece_lost : (run : PlainRun) (kept : ScriptHeaps) (state : ReplayState) (piece client : ℕ) (pages : Run) → live state.events pages.segment ≡ false
-    → client ≡ (taker_of state.heaps piece).client → RunStandsFor run (after_event state (lock_of pages))
+    → client ≡ (owner_of state.heaps piece).client → RunStandsFor run (after_event state (lock_of pages))
     → ((heaps : Heaps) → Shows run.heaps heaps → Shows kept (with_client heaps client (lost (heaps.clients client) pages.segment)))
     → RunStandsFor (record run { heaps = kept }) (after_piece_lock state piece pages)
 piece_lost run kept state piece client pages dead is w loses =
@@ -263,29 +263,29 @@ room_heaps state pages now = by_test (nat_lt (room state.limit pages) (granted s
     by_test false = refl
 
 -- room for a segment changes no number of a piece
-takers_before : (state : ReplayState) (client m at : ℕ) → (with_room (after_telling (after_sweep state client) client) m at).heaps.takers ≡ state.heaps.takers
-takers_before state client m at =
-    ap (λ (h : Heaps). h.takers) (room_heaps (after_telling (after_sweep state client) client) m at)
-    ∙ ap (λ (h : Heaps). h.takers) (heaps_stay (map (λ (id : ℕ). event.Back id) (holding_of (after_sweep state client) client).untold) (after_sweep state client))
+owners_before : (state : ReplayState) (client m at : ℕ) → (with_room (after_telling (after_sweep state client) client) m at).heaps.owners ≡ state.heaps.owners
+owners_before state client m at =
+    ap (λ (h : Heaps). h.owners) (room_heaps (after_telling (after_sweep state client) client) m at)
+    ∙ ap (λ (h : Heaps). h.owners) (heaps_stay (map (λ (id : ℕ). event.Back id) (holding_of (after_sweep state client) client).untold) (after_sweep state client))
 
 one_less : (k : ℕ) → k + 1 - 1 ≡ k
 one_less k = omega arith
 
 -- a segment that comes changes no number of a piece, and its piece is one more
-adoption_takers : (state : ReplayState) (client n at : ℕ) → length (after_adoption state client n at).heaps.takers ≡ next_piece state.heaps
-adoption_takers state client n at = refl
+adoption_owners : (state : ReplayState) (client n at : ℕ) → length (after_adoption state client n at).heaps.owners ≡ next_piece state.heaps
+adoption_owners state client n at = refl
 
 pieces_more : (state : ReplayState) (client n at : ℕ) → next_piece (with_new_piece state client n at).heaps ≡ next_piece state.heaps + 1
 pieces_more state client n at =
-    length-append (after_adoption state client n at).heaps.takers (record { client = client; place = length ((after_adoption state client n at).heaps.clients client).pieces } ∷ [])
-    ∙ ap (λ (k : ℕ). k + 1) (adoption_takers state client n at)
+    length-append (after_adoption state client n at).heaps.owners (record { client = client; place = length ((after_adoption state client n at).heaps.clients client).pieces } ∷ [])
+    ∙ ap (λ (k : ℕ). k + 1) (adoption_owners state client n at)
 
 -- a piece in a new segment is the next one
 pub new_piece_number : (state : ReplayState) (client n at number : ℕ) → number ≡ next_piece (with_new_piece (before_adoption state client n at) client n at).heaps - 1
     → number ≡ next_piece state.heaps
 new_piece_number state client n at number is =
     is ∙ ap (λ (k : ℕ). k - 1) (pieces_more (before_adoption state client n at) client n at)
-    ∙ one_less (next_piece (before_adoption state client n at).heaps) ∙ ap length (takers_before state client (new_pages state n) at)
+    ∙ one_less (next_piece (before_adoption state client n at).heaps) ∙ ap length (owners_before state client (new_pages state n) at)
 
 -- a search that found none, and then a new segment
 pub allocated : (run new : PlainRun) (state : ReplayState) (client n at : ℕ) (found : Option Run) → Finds run state client n found → found ≡ None

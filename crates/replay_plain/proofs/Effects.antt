@@ -9,7 +9,7 @@ use Rattle.machine.specs.History.{History, number_of, is_begun, pages_of, client
 use Rattle.machine.specs.Answers.{answer_of, is_plain, is_live, can_try, can_give_back, granted_numbers}
 use Rattle.machine.specs.Segments.{IsUnknown}
 use Rattle.machine.proofs.Untouched.{begun_other, pages_other, ended_other, gone_other, known_other}
-use Rattle.replay_plain.specs.declared.known.KnownSegment.{KnownSegment}
+use Rattle.replay_plain.specs.declared.segment.KnownSegment.{KnownSegment}
 use Rattle.replay_plain.specs.State.{is_grant}
 use Rattle.replay_plain.specs.Known.{Tells}
 

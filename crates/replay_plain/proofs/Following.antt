@@ -15,8 +15,8 @@ use Rattle.machine.specs.Laws.{added, taken_off}
 use Rattle.machine.proofs.Whole.{answered_push}
 use Rattle.machine.proofs.Counts.{counted_once}
 use Rattle.machine.proofs.Sound.{sound}
-use Rattle.replay_plain.specs.declared.known.KnownSegment.{KnownSegment}
-use Rattle.replay_plain.specs.declared.known.KnownSegments.{KnownSegments}
+use Rattle.replay_plain.specs.declared.segment.KnownSegment.{KnownSegment}
+use Rattle.replay_plain.specs.Rows.{KnownView}
 use Rattle.replay_plain.specs.State.{is_grant}
 use Rattle.replay_plain.specs.Known.{Tells, TellsAll, is_drawn, numbers_to}
 use Rattle.replay_plain.proofs.Places.{get_set_same, get_set_other, get_push_same, get_push_other, some_is}
@@ -48,7 +48,7 @@ quiet_sums h (Back id) Counted q = absurd (false≢true q)
 quiet_sums h _ _ q = (refl, refl)
 
 -- an event that changes nothing that is kept
-pub all_quiet : (events : List Event) (e : Event) (a : Answer) (kept : KnownSegments) → is_grant e ≡ false → answer events e ≡ a → is_quiet e a ≡ true
+pub all_quiet : (events : List Event) (e : Event) (a : Answer) (kept : KnownView) → is_grant e ≡ false → answer events e ≡ a → is_quiet e a ≡ true
     → TellsAll events kept → TellsAll (events ++ e ∷ []) kept
 all_quiet events e a kept no_grant is q w =
     let h = answered events in
@@ -67,16 +67,16 @@ all_quiet events e a kept no_grant is q w =
     }
 
 -- an event that changes what is kept of its number, and grants nothing
-pub all_changed : (events : List Event) (e : Event) (a : Answer) (id : ℕ) (old new : KnownSegments) (after : KnownSegment)
-    → number_of e ≡ id → is_grant e ≡ false → answer events e ≡ a → id < length old.table.items
-    → new.table.items ≡ set old.table.items id after
+pub all_changed : (events : List Event) (e : Event) (a : Answer) (id : ℕ) (old new : KnownView) (after : KnownSegment)
+    → number_of e ≡ id → is_grant e ≡ false → answer events e ≡ a → id < length old.items
+    → new.items ≡ set old.items id after
     → Tells ((e, a) ∷ answered events) id after
     → new.pages ≡ granted (events ++ e ∷ [])
     → TellsAll events old → TellsAll (events ++ e ∷ []) new
 all_changed events e a id old new after number no_grant is inside changed tells pages w =
     let h = answered events in
     let next = pushed events e a is in
-    let same : length new.table.items ≡ length old.table.items = ap length changed ∙ length-set old.table.items id after in
+    let same : length new.items ≡ length old.items = ap length changed ∙ length-set old.items id after in
     record {
       drawn = same ∙ w.drawn ∙ ap (λ n. n + 1) (sym (no_more events e no_grant));
       numbers = ap granted_numbers next ∙ numbers_same h e a no_grant ∙ w.numbers ∙ ap numbers_to (sym (no_more events e no_grant));
@@ -86,22 +86,22 @@ all_changed events e a id old new after number no_grant is inside changed tells 
       pages = pages;
     }
   where
-    by_test : (s : ℕ) (segment : KnownSegment) → slice_get (set old.table.items id after) s ≡ Some segment → (b : Bool) → (id == s) ≡ b
+    by_test : (s : ℕ) (segment : KnownSegment) → slice_get (set old.items id after) s ≡ Some segment → (b : Bool) → (id == s) ≡ b
         → Tells ((e, a) ∷ answered events) s segment
     by_test s segment at true e1 =
         let here : id ≡ s = eqb-true id s e1 in
-        let found : slice_get (set old.table.items id after) s ≡ Some after
-        = ap (λ n. slice_get (set old.table.items id after) n) (sym here) ∙ get_set_same old.table.items id after inside in
+        let found : slice_get (set old.items id after) s ≡ Some after
+        = ap (λ n. slice_get (set old.items id after) n) (sym here) ∙ get_set_same old.items id after inside in
         subst (λ n. Tells ((e, a) ∷ answered events) n segment) here
         (subst (λ (k : KnownSegment). Tells ((e, a) ∷ answered events) id k) (some_is after segment (sym found ∙ at)) tells)
     by_test s segment at false e1 =
         tells_other (answered events) e a s segment (ap (λ n. n == s) number ∙ e1)
-        (w.each s segment (sym (get_set_other old.table.items id s after (λ same. false≢true (sym e1 ∙ eq-eqb id s (sym same)))) ∙ at))
+        (w.each s segment (sym (get_set_other old.items id s after (λ same. false≢true (sym e1 ∙ eq-eqb id s (sym same)))) ∙ at))
 
 -- a number that was granted has a place
-pub has_place : (events : List Event) (kept : KnownSegments) (s : ℕ) → TellsAll events kept → is_begun (answered events) s ≡ true → s < length kept.table.items
+pub has_place : (events : List Event) (kept : KnownView) (s : ℕ) → TellsAll events kept → is_begun (answered events) s ≡ true → s < length kept.items
 has_place events kept s w begun =
-    let drawn : is_drawn (length kept.table.items) s ≡ true = sym (w.begun s) ∙ begun in
+    let drawn : is_drawn (length kept.items) s ≡ true = sym (w.begun s) ∙ begun in
     grind (arith, nat_tests)
 
 pub used_not_misuse : (known : ℕ) → Used known ≢ Misuse
@@ -117,9 +117,9 @@ pub purged_not_misuse : Purged ≢ Misuse
 purged_not_misuse e = cc
 
 -- a try that finds the segment used
-pub all_used : (events : List Event) (id now known : ℕ) (old new : KnownSegments) (segment : KnownSegment) → TellsAll events old → answer events (Try id now) ≡ Used known
-    → slice_get old.table.items id ≡ Some segment
-    → new.table.items ≡ set old.table.items id (record segment { known = known }) → new.pages ≡ old.pages
+pub all_used : (events : List Event) (id now known : ℕ) (old new : KnownView) (segment : KnownSegment) → TellsAll events old → answer events (Try id now) ≡ Used known
+    → slice_get old.items id ≡ Some segment
+    → new.items ≡ set old.items id (record segment { known = known }) → new.pages ≡ old.pages
     → TellsAll (events ++ Try id now ∷ []) new
 all_used events id now known old new segment w is at changed pages =
     let h = answered events in
@@ -130,9 +130,9 @@ all_used events id now known old new segment w is at changed pages =
     (tells_used h id now known segment (w.each id segment at)) (omega arith) w
 
 -- a try that takes the segment
-pub all_taken : (events : List Event) (id now : ℕ) (old new : KnownSegments) (segment : KnownSegment) → TellsAll events old → answer events (Try id now) ≡ Taken
-    → slice_get old.table.items id ≡ Some segment
-    → new.table.items ≡ set old.table.items id (record segment { live = false }) → new.pages ≡ old.pages - segment.pages
+pub all_taken : (events : List Event) (id now : ℕ) (old new : KnownView) (segment : KnownSegment) → TellsAll events old → answer events (Try id now) ≡ Taken
+    → slice_get old.items id ≡ Some segment
+    → new.items ≡ set old.items id (record segment { live = false }) → new.pages ≡ old.pages - segment.pages
     → TellsAll (events ++ Try id now ∷ []) new
 all_taken events id now old new segment w is at changed pages =
     let h = answered events in
@@ -145,9 +145,9 @@ all_taken events id now old new segment w is at changed pages =
     (tells_taken h id now segment tells) (omega arith) w
 
 -- a live segment is given back
-pub all_counted : (events : List Event) (id : ℕ) (old new : KnownSegments) (segment : KnownSegment) → TellsAll events old → answer events (Back id) ≡ Counted
-    → slice_get old.table.items id ≡ Some segment
-    → new.table.items ≡ set old.table.items id (record segment { live = false; plain = false }) → new.pages ≡ old.pages - segment.pages
+pub all_counted : (events : List Event) (id : ℕ) (old new : KnownView) (segment : KnownSegment) → TellsAll events old → answer events (Back id) ≡ Counted
+    → slice_get old.items id ≡ Some segment
+    → new.items ≡ set old.items id (record segment { live = false; plain = false }) → new.pages ≡ old.pages - segment.pages
     → TellsAll (events ++ Back id ∷ []) new
 all_counted events id old new segment w is at changed pages =
     let h = answered events in
@@ -160,9 +160,9 @@ all_counted events id old new segment w is at changed pages =
     (tells_returned h id segment Counted (inl refl) tells) (omega arith) w
 
 -- a purged segment is given back
-pub all_returned : (events : List Event) (id : ℕ) (old new : KnownSegments) (segment : KnownSegment) → TellsAll events old → answer events (Back id) ≡ Purged
-    → slice_get old.table.items id ≡ Some segment
-    → new.table.items ≡ set old.table.items id (record segment { live = false; plain = false }) → new.pages ≡ old.pages
+pub all_returned : (events : List Event) (id : ℕ) (old new : KnownView) (segment : KnownSegment) → TellsAll events old → answer events (Back id) ≡ Purged
+    → slice_get old.items id ≡ Some segment
+    → new.items ≡ set old.items id (record segment { live = false; plain = false }) → new.pages ≡ old.pages
     → TellsAll (events ++ Back id ∷ []) new
 all_returned events id old new segment w is at changed pages =
     let h = answered events in
@@ -174,8 +174,8 @@ all_returned events id old new segment w is at changed pages =
     (tells_returned h id segment Purged (inr refl) tells) (omega arith) w
 
 -- nothing is kept of it, so the number was not granted
-pub not_kept : (events : List Event) (kept : KnownSegments) (s : ℕ) → TellsAll events kept → slice_get kept.table.items s ≡ None → is_begun (answered events) s ≡ true → ⊥
-not_kept events kept s w none begun = there kept.table.items s (has_place events kept s w begun) none
+pub not_kept : (events : List Event) (kept : KnownView) (s : ℕ) → TellsAll events kept → slice_get kept.items s ≡ None → is_begun (answered events) s ≡ true → ⊥
+not_kept events kept s w none begun = there kept.items s (has_place events kept s w begun) none
   where
     there : (xs : List KnownSegment) (i : ℕ) → i < length xs → slice_get xs i ≡ None → ⊥
     there [] i inside e = absurd (omega (arith, inside))
@@ -183,9 +183,9 @@ not_kept events kept s w none begun = there kept.table.items s (has_place events
     there (x ∷ xs) (suc i) inside e = there xs i (omega (arith, inside)) e
 
 -- the next number is granted
-pub all_granted : (events : List Event) (id client pages : ℕ) (old new : KnownSegments) → TellsAll events old → answer events (Grant id client pages) ≡ Granted id
-    → id ≡ length old.table.items
-    → new.table.items ≡ old.table.items ++ (record { client = client; pages = pages; known = 0; live = true; plain = true }) ∷ []
+pub all_granted : (events : List Event) (id client pages : ℕ) (old new : KnownView) → TellsAll events old → answer events (Grant id client pages) ≡ Granted id
+    → id ≡ length old.items
+    → new.items ≡ old.items ++ (record { client = client; pages = pages; known = 0; live = true; plain = true }) ∷ []
     → new.pages ≡ old.pages + pages
     → TellsAll (events ++ Grant id client pages ∷ []) new
 unfolding is_begun granted_numbers
@@ -197,14 +197,14 @@ all_granted events id client pages old new w is number grown paged =
     let before = w.pages in
     let count = counted_more events e in
     let drawn = w.drawn in
-    let longer : length new.table.items ≡ length old.table.items + 1 = ap length grown ∙ length_push old.table.items _ in
+    let longer : length new.items ≡ length old.items + 1 = ap length grown ∙ length_push old.items _ in
     record {
       drawn = omega arith;
       numbers = ap granted_numbers next ∙ ap (λ xs. id ∷ xs) w.numbers
           ∙ first (count_by is_grant events) id (omega arith) ∙ ap numbers_to (sym count);
       begun = λ s. ap (λ g. is_begun g s) next ∙ ap (λ b. id == s || b) (w.begun s)
-          ∙ ap (λ n. n == s || is_drawn (length old.table.items) s) number
-          ∙ one_more (length old.table.items) s (omega arith) ∙ ap (λ n. is_drawn n s) (sym longer);
+          ∙ ap (λ n. n == s || is_drawn (length old.items) s) number
+          ∙ one_more (length old.items) s (omega arith) ∙ ap (λ n. is_drawn n s) (sym longer);
       each = λ s segment at. subst (λ g. Tells g s segment) (sym next)
           (by_test s segment (ap (λ xs. slice_get xs s) (sym grown) ∙ at) (id == s) refl);
       pages = omega arith;
@@ -222,23 +222,23 @@ all_granted events id client pages old new w is number grown paged =
     not_begun : is_begun (answered events) id ≡ false
     not_begun =
         let drawn = w.begun id in
-        let out : is_drawn (length old.table.items) id ≡ false = grind (arith, nat_tests) in
+        let out : is_drawn (length old.items) id ≡ false = grind (arith, nat_tests) in
         drawn ∙ out
 
-    by_test : (s : ℕ) (segment : KnownSegment) → slice_get (old.table.items ++ fresh ∷ []) s ≡ Some segment → (b : Bool) → (id == s) ≡ b
+    by_test : (s : ℕ) (segment : KnownSegment) → slice_get (old.items ++ fresh ∷ []) s ≡ Some segment → (b : Bool) → (id == s) ≡ b
         → Tells ((Grant id client pages, Granted id) ∷ answered events) s segment
     by_test s segment at true e1 =
         let here : id ≡ s = eqb-true id s e1 in
-        let found = get_push_same old.table.items s fresh (sym here ∙ number) in
+        let found = get_push_same old.items s fresh (sym here ∙ number) in
         subst (λ n. Tells ((Grant id client pages, Granted id) ∷ answered events) n segment) here
         (subst (λ (k : KnownSegment). Tells ((Grant id client pages, Granted id) ∷ answered events) id k) (some_is fresh segment (sym found ∙ at))
         (tells_granted (answered events) id client pages ((sound events id).unknown not_begun)))
     by_test s segment at false e1 =
         tells_other (answered events) (Grant id client pages) (Granted id) s segment e1
-        (w.each s segment (sym (get_push_other old.table.items s fresh (λ same. false≢true (sym e1 ∙ eq-eqb id s (number ∙ sym same)))) ∙ at))
+        (w.each s segment (sym (get_push_other old.items s fresh (λ same. false≢true (sym e1 ∙ eq-eqb id s (number ∙ sym same)))) ∙ at))
 
 -- nothing is kept before the first event
-pub none_kept : (kept : KnownSegments) → kept.table.items ≡ (record { client = 0; pages = 0; known = 0; live = false; plain = false }) ∷ [] → kept.pages ≡ 0
+pub none_kept : (kept : KnownView) → kept.items ≡ (record { client = 0; pages = 0; known = 0; live = false; plain = false }) ∷ [] → kept.pages ≡ 0
     → TellsAll [] kept
 unfolding answered_after is_begun pages_of client_of is_ended is_gone known_of granted_numbers
 none_kept kept items pages =

@@ -1,8 +1,7 @@
 pub mod Places
 pub mod Effects
 pub mod Following
-pub mod Firsts
-pub mod Entries
+pub mod LiveRows
 pub mod FrontIsLeast
 pub mod Standing
 pub mod Tries

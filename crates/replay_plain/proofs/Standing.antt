@@ -18,7 +18,7 @@ use Rattle.discard_book.specs.declared.entry.Entry.{Entry}
 use Rattle.discard_book.specs.declared.entry.Entry.TheVariants as entry
 use Rattle.script_heaps.specs.Showing.{Shows}
 use Rattle.replay_plain.specs.declared.run.PlainRun.{PlainRun}
-use Rattle.replay_plain.specs.declared.known.KnownSegments.{KnownSegments}
+use Rattle.replay_plain.specs.Rows.{KnownView}
 use Rattle.replay_plain.specs.State.{ReplayState, entries_by, entries_of, after_event, is_grant, grants_of, next_grant}
 use Rattle.replay_plain.specs.Known.{TellsAll, is_drawn}
 use Rattle.replay_plain.specs.Run.{RunStandsFor}
@@ -89,7 +89,7 @@ back_quiet id Purged no_counted no_purged = absurd (no_purged refl)
 back_quiet id _ no_counted no_purged = refl
 
 -- the next number was not granted, so it is
-pub draws : (state : ReplayState) (known : KnownSegments) (client pages : ℕ) → TellsAll state.events known → 1 ≤ client → 1 ≤ pages → pages ≤ MOST_PAGES
+pub draws : (state : ReplayState) (known : KnownView) (client pages : ℕ) → TellsAll state.events known → 1 ≤ client → 1 ≤ pages → pages ≤ MOST_PAGES
     → answer state.events (next_grant state client pages) ≡ Granted (grants_of state + 1)
 draws state known client pages w some few most =
     sym (granted (answered state.events) (grants_of state + 1) client pages ((sound state.events (grants_of state + 1)).unknown not_begun) (omega arith) few most)
@@ -97,11 +97,11 @@ draws state known client pages w some few most =
     not_begun : is_begun (answered state.events) (grants_of state + 1) ≡ false
     not_begun =
         let drawn = w.drawn in
-        let out : is_drawn (length known.table.items) (grants_of state + 1) ≡ false = grind (arith, nat_tests) in
+        let out : is_drawn (length known.items) (grants_of state + 1) ≡ false = grind (arith, nat_tests) in
         w.begun (grants_of state + 1) ∙ out
 
 -- the next number is granted
-pub stands_drawn : (state : ReplayState) (id client pages : ℕ) (old new : PlainRun) → id ≡ length old.known.table.items
+pub stands_drawn : (state : ReplayState) (id client pages : ℕ) (old new : PlainRun) → id ≡ length old.known.items
     → 1 ≤ client → 1 ≤ pages → pages ≤ MOST_PAGES
     → ((events : List Event) → StandsFor old.segments events → StandsFor new.segments (events ++ Grant id client pages ∷ []))
     → ((events : List Event) (n : ℕ) → TellsAll events old.known → answer events (Grant n client pages) ≡ Granted n → n ≡ id

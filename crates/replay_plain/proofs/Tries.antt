@@ -20,7 +20,7 @@ pub record TriesLeft (limit now : ℕ) (first : ReplayState) (run : PlainRun) (l
   pub stands : RunStandsFor run state
   pub rest : after_events state (tries_within left limit now state.events) ≡ after_events first (reduction limit now first.events)
 
-pub tries_first : (limit now : ℕ) (first : ReplayState) (run : PlainRun) (left : ℕ) → RunStandsFor run first → left ≡ 2 * (length run.known.table.items - 1)
+pub tries_first : (limit now : ℕ) (first : ReplayState) (run : PlainRun) (left : ℕ) → RunStandsFor run first → left ≡ 2 * (length run.known.items - 1)
     → TriesLeft limit now first run left
 tries_first limit now first run left w is =
     let drawn = w.known.drawn in

@@ -7,9 +7,9 @@ use Rattle.machine.specs.History.{client_of, number_of}
 use Rattle.machine.specs.Answers.{answered, plain, granted}
 use Rattle.discard_book.specs.declared.entry.Entry.{Entry}
 use Rattle.discard_book.specs.Legal.{room}
-use Rattle.line_text.specs.declared.command.Command.{Command}
-use Rattle.line_text.specs.declared.command.Command.TheVariants.{Grant, Lock, Unlock, Write, Read, Try, Back, Reduce, Enforce, Pressure, Limit, Remove, Alloc, PieceLock, PieceUnlock, PieceWrite, PieceRead, PieceFree, Sweep, Release, Runs, Granted}
-use Rattle.line_text.specs.Script.{Commands}
+use Rattle.script_text.specs.declared.command.Command.{Command}
+use Rattle.script_text.specs.declared.command.Command.TheVariants.{Grant, Lock, Unlock, Write, Read, Try, Back, Reduce, Enforce, Pressure, Limit, Remove, Alloc, PieceLock, PieceUnlock, PieceWrite, PieceRead, PieceFree, Sweep, Release, Runs, Granted}
+use Rattle.script_text.specs.Script.{Commands}
 use Rattle.script_heaps.specs.Holding.{emptied}
 use Rattle.script_heaps.specs.Heaps.{piece_of}
 use Rattle.replay_plain.specs.State.{ReplayState, after_event, after_events, grants_of, next_grant}

@@ -3,9 +3,15 @@ use Rattle.std.specs.Prelude.{◌≡◌, ℕ, ◌+◌, nat_lt, zero, suc, Bool, 
 use Rattle.machine.specs.declared.event.Event.{Event}
 use Rattle.machine.specs.History.{History, is_begun, pages_of, client_of, known_of}
 use Rattle.machine.specs.Answers.{answered, is_live, is_plain, granted_numbers, granted}
+use Rattle.machine.specs.Reduction.{Candidate, use_of}
 use Rattle.replay_plain.specs.State.{is_grant}
-use Rattle.replay_plain.specs.declared.known.KnownSegment.{KnownSegment}
-use Rattle.replay_plain.specs.declared.known.KnownSegments.{KnownSegments}
+use Rattle.replay_plain.specs.declared.segment.KnownSegment.{KnownSegment}
+use Rattle.replay_plain.specs.Rows.{KnownView}
+use Rattle.replay_plain.specs.declared.segment.Least.{Least}
+
+-- the number and the known use of a segment
+abbrev pub least_told : Candidate → Least
+least_told c = record { id = c.id; known = use_of c }
 
 -- what is kept of a number is what the history made of it
 pub record Tells (h : History) (s : ℕ) (kept : KnownSegment) : Type 0 where
@@ -24,12 +30,12 @@ numbers_to (suc n) = suc n ∷ numbers_to n
 abbrev pub is_drawn : ℕ → ℕ → Bool
 is_drawn next s = nat_lt 0 s && nat_lt s next
 
--- What is kept of the granted segments tells these events. The table has a place for each number
+-- What is kept of the granted segments tells these events. The rows have a place for each number
 -- from 0 on, which is never granted, to the last one that was drawn.
-pub record TellsAll (events : List Event) (kept : KnownSegments) : Type 0 where
-  pub drawn : length kept.table.items ≡ count_by is_grant events + 1
+pub record TellsAll (events : List Event) (kept : KnownView) : Type 0 where
+  pub drawn : length kept.items ≡ count_by is_grant events + 1
   pub numbers : granted_numbers (answered events) ≡ numbers_to (count_by is_grant events)
-  pub begun : (s : ℕ) → is_begun (answered events) s ≡ is_drawn (length kept.table.items) s
-  pub each : (s : ℕ) (segment : KnownSegment) → slice_get kept.table.items s ≡ Some segment
+  pub begun : (s : ℕ) → is_begun (answered events) s ≡ is_drawn (length kept.items) s
+  pub each : (s : ℕ) (segment : KnownSegment) → slice_get kept.items s ≡ Some segment
       → Tells (answered events) s segment
   pub pages : kept.pages ≡ granted events

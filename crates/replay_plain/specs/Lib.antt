@@ -1,7 +1,7 @@
 pub mod Config
 pub mod State
 pub mod Reductions
-pub mod Least
+pub mod Rows
 pub mod Known
 pub mod Pieces
 pub mod Run

@@ -1,5 +1,5 @@
 -- What the commands on a client's pieces make of the state of a replay.
-use Rattle.std.specs.Prelude.{ℕ, ◌+◌, ◌-◌, ◌*◌, ◌/◌, max, min, nat_le, nat_lt, zero, suc, Bool, true, false, if◌then◌else◌, List, length, map, Option, Some, None, option_map, unwrap_or}
+use Rattle.std.specs.Prelude.{ℕ, ◌+◌, ◌-◌, ◌*◌, max, min, nat_le, nat_lt, zero, suc, Bool, true, false, if◌then◌else◌, List, length, map, Option, Some, None, option_map, unwrap_or}
 use Rattle.units.specs.declared.TheConstants.{PAGE}
 use Rattle.machine.specs.declared.event.Event.{Event}
 use Rattle.machine.specs.declared.event.Event.TheVariants as event
@@ -13,13 +13,10 @@ use Rattle.span_heap.specs.Runs.{front_of}
 use Rattle.span_heap.specs.Pick.{pick}
 use Rattle.span_heap.specs.Changes.{whole_of}
 use Rattle.script_heaps.specs.Holding.{Holding, lost, lost_all, purged, told, taken, adopted, without_all, all_free, after_free}
-use Rattle.script_heaps.specs.Heaps.{with_client, with_next, with_owned, taker_of}
+use Rattle.script_heaps.specs.Heaps.{with_client, with_next, with_owned, owner_of}
 use Rattle.replay_plain.specs.State.{ReplayState, after_event, after_events, grants_of, next_grant}
 use Rattle.replay_plain.specs.Reductions.{with_room}
-
--- the pages for so many bytes: whole ones, the last of which may be filled in part, and at least one
-abbrev pub pages_for : ℕ → ℕ
-pages_for bytes = max ((bytes + (PAGE - 1)) / PAGE) 1
+pub use Rattle.units.specs.Sizes.{pages_for}
 
 -- what a client has
 abbrev pub holding_of : ReplayState → ℕ → Holding
@@ -184,7 +181,7 @@ on_piece (Some run) state next = next run
 -- the state after a lock of a piece with these pages: where its segment is live no more, that leaves
 abbrev pub after_piece_lock : ReplayState → ℕ → Run → ReplayState
 after_piece_lock state piece run =
-    let client = (taker_of state.heaps piece).client in
+    let client = (owner_of state.heaps piece).client in
     let locked = after_event state (lock_of run) in
     if live state.events run.segment then locked
     else with_holding locked client (lost (holding_of state client) run.segment)
@@ -214,9 +211,9 @@ after_piece_write state place bytes run =
 -- not locked, and its pages are free where its segment is among the client's
 abbrev pub after_piece_free : ReplayState → ℕ → ℕ → Run → ReplayState
 after_piece_free state piece at run =
-    let taker = taker_of state.heaps piece in
-    with_holding (after_event state (unlock_of run at)) taker.client
-    (after_free (holding_of state taker.client) taker.place run)
+    let owner = owner_of state.heaps piece in
+    with_holding (after_event state (unlock_of run at)) owner.client
+    (after_free (holding_of state owner.client) owner.place run)
 
 -- the state after the release of a client: each of its segments that is all free leaves and is given back
 abbrev pub after_release : ReplayState → ℕ → ReplayState

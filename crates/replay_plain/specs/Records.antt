@@ -2,8 +2,8 @@
 use Rattle.std.specs.Prelude.{ℕ, List, [], ◌∷◌, ◌++◌, Result, Ok, Err}
 use Rattle.discard_book.specs.declared.entry.Entry.{Entry}
 use Rattle.discard_book.specs.Text.{text_of}
-use Rattle.line_text.specs.declared.command.Command.{Command}
-use Rattle.line_text.specs.Script.{Commands, script_of}
+use Rattle.script_text.specs.declared.command.Command.{Command}
+use Rattle.script_text.specs.Script.{Commands, script_of}
 use Rattle.replay_plain.specs.declared.config.ReplayCfg.{ReplayCfg}
 use Rattle.replay_plain.specs.State.{ReplayState, first_state}
 use Rattle.replay_plain.specs.Commands.{state_after, state_after_all, added}

@@ -11,11 +11,11 @@ use Rattle.machine.specs.Answers.{answer, readable, left, live, granted}
 use Rattle.discard_book.specs.declared.entry.Entry.{Entry}
 use Rattle.discard_book.specs.declared.entry.Entry.TheVariants as entry
 use Rattle.discard_book.specs.Text.{spaced, spaced_or_dash}
-use Rattle.line_text.specs.declared.command.Command.{Command}
-use Rattle.line_text.specs.declared.command.Command.TheVariants.{Grant, Lock, Unlock, Write, Read, Try, Back, Reduce, Enforce, Pressure, Limit, Remove, Alloc, PieceLock, PieceUnlock, PieceWrite, PieceRead, PieceFree, Sweep, Release, Runs, Granted}
+use Rattle.script_text.specs.declared.command.Command.{Command}
+use Rattle.script_text.specs.declared.command.Command.TheVariants.{Grant, Lock, Unlock, Write, Read, Try, Back, Reduce, Enforce, Pressure, Limit, Remove, Alloc, PieceLock, PieceUnlock, PieceWrite, PieceRead, PieceFree, Sweep, Release, Runs, Granted}
 use Rattle.span_heap.specs.declared.run.Run.{Run}
 use Rattle.script_heaps.specs.Holding.{has, purged}
-use Rattle.script_heaps.specs.Heaps.{next_piece, taker_of, piece_of}
+use Rattle.script_heaps.specs.Heaps.{next_piece, owner_of, piece_of}
 use Rattle.replay_plain.specs.State.{ReplayState, next_grant}
 use Rattle.replay_plain.specs.Reductions.{least_use, with_room}
 use Rattle.replay_plain.specs.Pieces.{find, holding_of, pages_for, before_adoption, next_run, lock_of, unlock_of, fits_in, place_in, write_of}
@@ -180,7 +180,7 @@ piece_read_text state place count run =
 -- the reply to a free of a piece with these pages
 abbrev pub piece_free_text : ReplayState → ℕ → Run → List ℕ
 piece_free_text state piece run =
-    freed_words (has (holding_of state (taker_of state.heaps piece).client) run.segment)
+    freed_words (has (holding_of state (owner_of state.heaps piece).client) run.segment)
 
 -- the reply to a sweep of a client
 abbrev pub swept_text : ReplayState → ℕ → List ℕ

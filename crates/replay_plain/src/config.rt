@@ -1,3 +1,5 @@
+use line_text::MOST_LIMIT;
+
 /// The settings of a replay.
 #[derive(Clone, Copy, Debug, PartialEq, Eq)]
 pub struct ReplayCfg {
@@ -17,7 +19,7 @@ impl Default for ReplayCfg {
     /// The settings where the words name none. No grant of a script passes this limit.
     fn default() -> ReplayCfg {
         ReplayCfg {
-            limit: 1_048_576,
+            limit: MOST_LIMIT,
             standard: 64,
             keep: 16,
         }

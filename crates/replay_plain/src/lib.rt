@@ -5,13 +5,13 @@
 mod config;
 mod known;
 mod laws;
-mod least;
 mod pieces;
 mod reducing;
 mod reply;
+mod rows;
 mod run;
+mod segment;
 mod steps;
-mod table;
 
 pub use config::ReplayCfg;
 pub use laws::law_reductions_end;
@@ -21,6 +21,3 @@ pub use reply::{
     push_released, push_removed, push_runs, push_swept,
 };
 pub use run::PlainRun;
-
-#[cfg(test)]
-mod tests;

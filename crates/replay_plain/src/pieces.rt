@@ -5,7 +5,7 @@ ghost use Rattle.machine.specs.History.{number_of};
 ghost use Rattle.machine.specs.Reduction.{is_owners};
 ghost use Rattle.machine.specs.Answers.{answer, live};
 ghost use Rattle.line_text.specs.declared.limits.TheConstants.{MOST_SEGMENT_PAGES};
-ghost use Rattle.line_text.specs.Ranges.{IsClient, IsPieceSize, IsBytePlace, IsByteCount};
+ghost use Rattle.script_text.specs.Ranges.{IsClient, IsPieceSize, IsBytePlace, IsByteCount};
 ghost use Rattle.span_heap.specs.declared.run.Run.{Run};
 ghost use Rattle.span_heap.specs.Runs.{front_of};
 ghost use Rattle.script_heaps.specs.Holding.{has, told, purged, all_free};
@@ -33,7 +33,7 @@ pub fn pages_for(size: u64) -> u32
     ensures value { result ≡ pages_for size }
     ensures range { (1 ≤ result) × (result ≤ MOST_SEGMENT_PAGES) }
 {
-    size.div_ceil(PAGE).max(1) as u32
+    units::pages_for(size) as u32
 }
 
 impl PlainRun {

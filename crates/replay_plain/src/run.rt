@@ -1,5 +1,5 @@
 ghost use Rattle.std.specs.Prelude.{◌≡◌, ◌≤◌, ◌++◌, vec_len, OnOk, IfOk};
-ghost use Rattle.line_text.specs.Ranges.{IsByteCount, IsClient, IsInRange};
+ghost use Rattle.script_text.specs.Ranges.{IsByteCount, IsClient, IsInRange};
 ghost use Rattle.replay_plain.specs.State.{ReplayState, first_state};
 ghost use Rattle.replay_plain.specs.Reductions.{after_reduction};
 ghost use Rattle.replay_plain.specs.Commands.{after_removal, state_after};
@@ -10,9 +10,9 @@ use crate::config::ReplayCfg;
 use crate::known::KnownSegments;
 use crate::reply::{push_answer, push_granted, push_hex, push_reduced, push_removed};
 use discard_book::Entry;
-use line_text::Command;
 use machine::{Answer, Event, PlainSegments};
 use script_heaps::ScriptHeaps;
+use script_text::Command;
 use std::alloc::Global;
 use units::NoMemory;
 

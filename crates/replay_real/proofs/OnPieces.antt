@@ -5,9 +5,9 @@ use Rattle.std.proofs.lemmas.Bool.Decides.{nat_tests}
 use Rattle.std.proofs.lemmas.List.{get_or-set_same, get_or-set_other, get_or_past, set-get_or, length-set}
 use Rattle.client.specs.Pieces.{Part}
 use Rattle.replay_real.specs.declared.heaps.Heaps.{Heaps}
-use Rattle.replay_real.specs.declared.heaps.Taker.{Taker}
+use Rattle.script_heaps.specs.declared.heaps.PieceOwner.{PieceOwner}
 use Rattle.replay_real.specs.Served.{ServedClient, part_at}
-use Rattle.replay_real.specs.PieceCalls.{slot_at, SlotCall, CallsAt, taker_at, served_at, CallsClient, OnClient, OnPiece}
+use Rattle.replay_real.specs.PieceCalls.{slot_at, SlotCall, CallsAt, owner_at, served_at, CallsClient, OnClient, OnPiece}
 
 -- ---- one client
 
@@ -89,15 +89,15 @@ at_other a b apart = grind (arith, nat_tests, apart)
 -- what a client has changed
 pub on_client : (client : ℕ) (call : ServedClient → ServedClient → Type 0) (none : Type 0) (old new : Heaps) (was now : ServedClient) → Some was ≡ served_at old client
     → ((q : ℕ) → served_at new q ≡ cond (is_at (nat_cmp client) q) (Some now) (served_at old q))
-    → new.takers ≡ old.takers → new.owned ≡ old.owned → new.standard ≡ old.standard → call was now → OnClient client call none old new
-on_client client call none old new was now found updates takers owned standard calls =
+    → new.owners ≡ old.owners → new.owned ≡ old.owned → new.standard ≡ old.standard → call was now → OnClient client call none old new
+on_client client call none old new was now found updates owners owned standard calls =
     subst (λ (o : Option ServedClient). MatchOption o (none × (new ≡ old)) (λ s. CallsClient client call s old new)) found
     (record {
       now = now;
       is = updates client ∙ ap (λ (b : Bool). cond b (Some now) (served_at old client)) (at_same client);
       calls = calls;
       others = λ other apart. updates other ∙ ap (λ (b : Bool). cond b (Some now) (served_at old other)) (at_other client other apart);
-      takers = takers;
+      owners = owners;
       owned = owned;
       standard = standard;
     })
@@ -109,15 +109,15 @@ on_no_client client call none old new found holds same =
     subst (λ (o : Option ServedClient). MatchOption o (none × (new ≡ old)) (λ s. CallsClient client call s old new)) found (holds, same)
 
 -- the piece came for a client
-pub on_piece : (number : ℕ) (call : SlotCall) (none : Type 0) (old new : Heaps) (taker : Taker) → Some taker ≡ taker_at old number
-    → OnClient taker.client (CallsAt taker.place call) none old new → OnPiece number call none old new
-on_piece number call none old new taker found calls =
-    subst (λ (o : Option Taker). MatchOption o (none × (new ≡ old)) (λ t. OnClient t.client (CallsAt t.place call) none old new)) found calls
+pub on_piece : (number : ℕ) (call : SlotCall) (none : Type 0) (old new : Heaps) (owner : PieceOwner) → Some owner ≡ owner_at old number
+    → OnClient owner.client (CallsAt owner.place call) none old new → OnPiece number call none old new
+on_piece number call none old new owner found calls =
+    subst (λ (o : Option PieceOwner). MatchOption o (none × (new ≡ old)) (λ t. OnClient t.client (CallsAt t.place call) none old new)) found calls
 
 -- no such piece came
-pub on_no_piece : (number : ℕ) (call : SlotCall) (none : Type 0) (heaps : Heaps) → None ≡ taker_at heaps number → none → OnPiece number call none heaps heaps
+pub on_no_piece : (number : ℕ) (call : SlotCall) (none : Type 0) (heaps : Heaps) → None ≡ owner_at heaps number → none → OnPiece number call none heaps heaps
 on_no_piece number call none heaps found holds =
-    subst (λ (o : Option Taker). MatchOption o (none × (heaps ≡ heaps)) (λ t. OnClient t.client (CallsAt t.place call) none heaps heaps)) found (holds, refl)
+    subst (λ (o : Option PieceOwner). MatchOption o (none × (heaps ≡ heaps)) (λ t. OnClient t.client (CallsAt t.place call) none heaps heaps)) found (holds, refl)
 
 -- a call on a client changes no standard size
 pub standard_kept : (client : ℕ) (call : ServedClient → ServedClient → Type 0) (none : Type 0) (old new : Heaps) → OnClient client call none old new → new.standard ≡ old.standard

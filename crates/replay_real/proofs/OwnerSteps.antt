@@ -12,7 +12,7 @@ use Rattle.machine.specs.declared.event.Event.TheVariants.{Grant, Lock, Unlock, 
 use Rattle.machine.specs.declared.event.Answer.TheVariants.{Granted, Misuse, Held, Gone, Idle, StillHeld, Written}
 use Rattle.machine.specs.History.{History, is_held, pages_of, put}
 use Rattle.machine.specs.Answers.{bytes_held, answer_of, can_lock, can_unlock, is_plain, are_free, are_held, staying}
-use Rattle.machine.specs.Kept.{Kept}
+use Rattle.machine.specs.KeptSegment.{KeptSegment}
 use Rattle.machine.specs.Segments.{Shows, IsUnknown}
 use Rattle.machine.proofs.Steps.{shows_grant, shows_idle, shows_still_held, shows_lock, shows_write}
 use Rattle.machine.proofs.Told.{plain_told, unlock_plain, past_the_end, unlock_told, lock_told, unlock_misuse, unlock_answer, lock_misuse, lock_answer, staying_told}
@@ -45,11 +45,11 @@ owns_new side locks some granted all =
     holds n e = omega arith
 
 -- a true test where the range is locked
-held_range : (h : History) (s first count : ℕ) (kept : Kept) → Shows h s kept → is_plain h s ≡ true → AreLocked kept.held first count → are_held h s first count ≡ true
+held_range : (h : History) (s first count : ℕ) (kept : KeptSegment) → Shows h s kept → is_plain h s ≡ true → AreLocked kept.held first count → are_held h s first count ≡ true
 held_range h s first count kept w plain a = all_pass (λ page. is_held h s page) first count (λ page low high. sym (w.held plain page) ∙ a.each page low high)
 
 -- an Unlock that the machine takes finds its range locked
-can_unlock_locked : (h : History) (s first count at : ℕ) (kept : Kept) → Shows h s kept → can_unlock h s first count at ≡ true → AreLocked kept.held first count
+can_unlock_locked : (h : History) (s first count at : ℕ) (kept : KeptSegment) → Shows h s kept → can_unlock h s first count at ≡ true → AreLocked kept.held first count
 can_unlock_locked h s first count at kept w e =
     let parts = and_parts (is_plain h s && nat_lt 0 count && are_held h s first count) (is_moment at) e in
     let range = and_parts (is_plain h s && nat_lt 0 count) (are_held h s first count) parts.0 in
@@ -61,7 +61,7 @@ can_unlock_locked h s first count at kept w e =
       each = λ page low high. w.held plain page ∙ each_passes (λ p. is_held h s p) first count page range.1 low high;
     }
 
-pub unlock_refused : (h : History) (s first count at : ℕ) (kept : Kept) (r : Bool) → Shows h s kept → (IsTrue r ↔ AreLocked kept.held first count) → r ≡ false
+pub unlock_refused : (h : History) (s first count at : ℕ) (kept : KeptSegment) (r : Bool) → Shows h s kept → (IsTrue r ↔ AreLocked kept.held first count) → r ≡ false
     → Misuse ≡ answer_of h (Unlock s first count at)
 unlock_refused h s first count at kept r w told no_range = unlock_misuse h s first count at (by_test (can_unlock h s first count at) refl)
   where
@@ -73,20 +73,20 @@ moment_is : (at : ℕ) → IsMoment at → is_moment at ≡ true
 moment_is at m = grind (arith, nat_tests, m.0, m.1)
 
 -- an Unlock of a range that is locked
-pub unlock_taken : (h : History) (s first count at : ℕ) (kept : Kept) (r : Bool) → Shows h s kept → kept.ended ≡ false → (IsTrue r ↔ AreLocked kept.held first count) → r ≡ true → IsMoment at
+pub unlock_taken : (h : History) (s first count at : ℕ) (kept : KeptSegment) (r : Bool) → Shows h s kept → kept.ended ≡ false → (IsTrue r ↔ AreLocked kept.held first count) → r ≡ true → IsMoment at
     → true ≡ can_unlock h s first count at
 unlock_taken h s first count at kept r w plain told yes_range moment =
     let a = told.0 yes_range in
     unlock_told h s first count at kept true w plain a.some (moment_is at moment) (held_range h s first count kept w (plain_told h s kept w plain) a)
 
-pub still_held_answer : (h : History) (s first count at n : ℕ) (kept : Kept) (new : List Bool) → Shows h s kept → true ≡ can_unlock h s first count at
+pub still_held_answer : (h : History) (s first count at n : ℕ) (kept : KeptSegment) (new : List Bool) → Shows h s kept → true ≡ can_unlock h s first count at
     → UnlocksRange kept.held new first count → n ≡ locked_count new → 0 < n → StillHeld n ≡ answer_of h (Unlock s first count at)
 still_held_answer h s first count at n kept new w can after counted some =
     let stay : n ≡ staying h s first count = counted ∙ sym (staying_told h s first count kept new w (unlock_plain h s first count at can) after.size after.each) in
     sym (ap (λ (b : Bool). cond b (Idle (max kept.stamp at)) (StillHeld n)) (ne_eqb n 0 (λ e. omega arith)))
     ∙ unlock_answer h s first count at n kept w can stay
 
-pub idle_answer : (h : History) (s first count at n : ℕ) (kept : Kept) (new : List Bool) → Shows h s kept → true ≡ can_unlock h s first count at
+pub idle_answer : (h : History) (s first count at n : ℕ) (kept : KeptSegment) (new : List Bool) → Shows h s kept → true ≡ can_unlock h s first count at
     → UnlocksRange kept.held new first count → n ≡ locked_count new → n ≤ 0 → Idle (max at kept.stamp) ≡ answer_of h (Unlock s first count at)
 idle_answer h s first count at n kept new w can after counted none =
     let stay : 0 ≡ staying h s first count = omega arith ∙ counted ∙ sym (staying_told h s first count kept new w (unlock_plain h s first count at can) after.size after.each) in
@@ -151,7 +151,7 @@ bytes_locked h s place count first n locks false told some from to is = by_test 
         absurd (false≢true (is.1 (record { some = more; inside = last_inside (each (first + n - 1) (omega arith) (omega arith)); each = each })))
 
 -- a Lock that the machine takes finds its range free
-can_lock_free : (h : History) (s first count : ℕ) (kept : Kept) → Shows h s kept → can_lock h s first count ≡ true → AreFree kept.held first count
+can_lock_free : (h : History) (s first count : ℕ) (kept : KeptSegment) → Shows h s kept → can_lock h s first count ≡ true → AreFree kept.held first count
 can_lock_free h s first count kept w e =
     let parts = and_parts (is_plain h s && nat_lt 0 count && nat_le (first + count) (pages_of h s)) (are_free h s first count) e in
     let range = and_parts (is_plain h s && nat_lt 0 count) (nat_le (first + count) (pages_of h s)) parts.0 in
@@ -171,14 +171,14 @@ can_lock_free h s first count kept w e =
     le-true : (a b : ℕ) → nat_le a b ≡ true → a ≤ b
     le-true a b e = grind (arith, nat_tests)
 
-pub lock_refused : (h : History) (s first count : ℕ) (kept : Kept) → Shows h s kept → (IsTrue false ↔ AreFree kept.held first count) → Misuse ≡ answer_of h (Lock s first count)
+pub lock_refused : (h : History) (s first count : ℕ) (kept : KeptSegment) → Shows h s kept → (IsTrue false ↔ AreFree kept.held first count) → Misuse ≡ answer_of h (Lock s first count)
 lock_refused h s first count kept w told = lock_misuse h s first count (by_test (can_lock h s first count) refl)
   where
     by_test : (b : Bool) → can_lock h s first count ≡ b → false ≡ can_lock h s first count
     by_test true e = absurd (false≢true (told.1 (can_lock_free h s first count kept w e)))
     by_test false e = sym e
 
-pub lock_held : (h : History) (s first count : ℕ) (kept : Kept) → Shows h s kept → kept.ended ≡ false → kept.gone ≡ false → (IsTrue true ↔ AreFree kept.held first count)
+pub lock_held : (h : History) (s first count : ℕ) (kept : KeptSegment) → Shows h s kept → kept.ended ≡ false → kept.gone ≡ false → (IsTrue true ↔ AreFree kept.held first count)
     → Held ≡ answer_of h (Lock s first count)
 lock_held h s first count kept w plain there told =
     let a = told.0 refl in

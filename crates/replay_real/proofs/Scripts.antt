@@ -1,8 +1,8 @@
 -- A command of a list in range is in range.
 use Rattle.std.proofs.Common.{◌≡◌, ℕ, ◌<◌, length, get_or, [], ◌∷◌, zero, suc, sym, subst, arith}
-use Rattle.line_text.specs.declared.command.Command.{Command}
-use Rattle.line_text.specs.Script.{Commands}
-use Rattle.line_text.specs.Ranges.{IsInRange, AreInRange}
+use Rattle.script_text.specs.declared.command.Command.{Command}
+use Rattle.script_text.specs.Script.{Commands}
+use Rattle.script_text.specs.Ranges.{IsInRange, AreInRange}
 
 range_at : (lines : Commands) (n : ℕ) (d : ℕ × Command) → n < length lines → AreInRange lines → IsInRange (get_or lines n d).1
 range_at [] n d h w = absurd (omega arith)

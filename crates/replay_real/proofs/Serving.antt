@@ -7,9 +7,9 @@ use Rattle.span_heap.specs.declared.run.Run.{Run}
 use Rattle.span_heap.specs.Run.{has_page}
 use Rattle.client.specs.Seen.{Seen}
 use Rattle.client.specs.Pieces.{Part, Owns, AllStay, AreApart, IsNew}
-use Rattle.replay_real.specs.Served.{IsOwned, part_at, IsServed, KeepsSlot}
+use Rattle.replay_real.specs.Served.{OwnsSlot, part_at, IsServed, KeepsSlot}
 
-is_owned : (old new : Seen) → ((part : Part) → Owns old part → Owns new part) → (slot : Option Part) → IsOwned old slot → IsOwned new slot
+is_owned : (old new : Seen) → ((part : Part) → Owns old part → Owns new part) → (slot : Option Part) → OwnsSlot old slot → OwnsSlot new slot
 is_owned old new keeps None o = tt
 is_owned old new keeps (Some part) o = keeps part o
 
@@ -26,7 +26,7 @@ served_none client = record { owned = λ place. tt; once = λ one other a b at1 
 
 -- the piece of a place that is there is owned
 there : (client : Seen) (parts : List (Option Part)) (place : ℕ) (part : Part) → IsServed client parts → part_at parts place ≡ Some part → Owns client part
-there client parts place part w is = subst (IsOwned client) is (w.owned place)
+there client parts place part w is = subst (OwnsSlot client) is (w.owned place)
 
 -- ---- one piece changed
 
@@ -48,14 +48,14 @@ served_set old new parts place now within keeps w =
     differs : (k : ℕ) → (k == place) ≡ false → k ≢ place
     differs k no_test is = false≢true (sym no_test ∙ eq-eqb k place is)
 
-    other_owned : (k : ℕ) → k ≢ place → (slot : Option Part) → part_at parts k ≡ slot → IsOwned old slot → IsOwned new slot
+    other_owned : (k : ℕ) → k ≢ place → (slot : Option Part) → part_at parts k ≡ slot → OwnsSlot old slot → OwnsSlot new slot
     other_owned k apart None is o = tt
     other_owned k apart (Some part) is o = keeps.others part o (λ before was same. apart (w.once k place part before is was same))
 
-    owned_at : (k : ℕ) (b : Bool) → (k == place) ≡ b → IsOwned new (part_at (set parts place now) k)
-    owned_at k true test = subst (IsOwned new) (sym (at_place parts place k now within (eqb-true k place test))) keeps.owned
+    owned_at : (k : ℕ) (b : Bool) → (k == place) ≡ b → OwnsSlot new (part_at (set parts place now) k)
+    owned_at k true test = subst (OwnsSlot new) (sym (at_place parts place k now within (eqb-true k place test))) keeps.owned
     owned_at k false test =
-        subst (IsOwned new) (sym (at_other parts place k now (differs k test))) (other_owned k (differs k test) (part_at parts k) refl (w.owned k))
+        subst (OwnsSlot new) (sym (at_other parts place k now (differs k test))) (other_owned k (differs k test) (part_at parts k) refl (w.owned k))
 
     once_at : (one other : ℕ) (a b : Part) (t : Bool) → (one == place) ≡ t → (u : Bool) → (other == place) ≡ u
         → part_at (set parts place now) one ≡ Some a → part_at (set parts place now) other ≡ Some b → a.run ≡ b.run → one ≡ other
@@ -97,7 +97,7 @@ served_push old new parts pages part some stay fresh w =
     sized : 1 ≤ part.run.pages
     sized = let is = fresh.sized in omega (arith, is, some)
 
-    owned_at : (k : ℕ) (slot : Option Part) → part_at (parts ++ Some part ∷ []) k ≡ slot → IsOwned new slot
+    owned_at : (k : ℕ) (slot : Option Part) → part_at (parts ++ Some part ∷ []) k ≡ slot → OwnsSlot new slot
     owned_at k None is = tt
     owned_at k (Some y) is =
         ⊎_elim (λ at. (stay y (there old parts k y w at)).owned) (λ r. subst (Owns new) (some_same part y r.1) fresh.owned) (pushed parts (Some part) k y is)

@@ -3,8 +3,8 @@ use Rattle.std.specs.Prelude.{◌≡◌, ◌≢◌, ℕ, ◌-◌, ◌<◌, max, 
 use Rattle.hex.specs.Hex.{encode_lower}
 use Rattle.segment.specs.Owned.{Owned}
 use Rattle.discard_book.specs.Live.{granted}
-use Rattle.line_text.specs.declared.command.Command.{Command}
-use Rattle.line_text.specs.declared.command.Command.TheVariants as command
+use Rattle.script_text.specs.declared.command.Command.{Command}
+use Rattle.script_text.specs.declared.command.Command.TheVariants as command
 use Rattle.machine.specs.declared.event.Answer.{Answer}
 use Rattle.machine.specs.declared.event.Answer.TheVariants as answer
 use Rattle.lru_reduce.specs.declared.reduction.Reduced.{Reduced}
@@ -23,7 +23,7 @@ use Rattle.replay_real.specs.Emptiness.{is_of_heap}
 use Rattle.span_heap.specs.declared.run.Run.{Run}
 use Rattle.span_heap.specs.Runs.{front_of}
 use Rattle.span_heap.specs.Changes.{whole_of}
-use Rattle.replay_plain.specs.Pieces.{pages_for}
+use Rattle.units.specs.Sizes.{pages_for}
 use Rattle.replay_real.specs.declared.heaps.Heaps.{Heaps}
 use Rattle.replay_real.specs.Returning.{TellsServed, ReleasesServed}
 use Rattle.replay_real.specs.PieceCalls.{SlotCall, OnPiece, OnClient, LocksSlot, UnlocksSlot, WritesSlot, FreesSlot, SweepsServed, piece_bytes, free_runs}
@@ -182,7 +182,7 @@ pub record AllocatesAndTells (client pages now : ℕ) (old new : RealRun) (befor
   pub found : Heaps
   pub standard : found.standard ≡ old.heaps.standard
   pub manager : MatchBool served (new ≡ record old { heaps = found }) (BeginsPiece client pages now run (record old { heaps = found }) new)
-  pub words : after ≡ before ++ piece_words (length new.heaps.takers.items) served run
+  pub words : after ≡ before ++ piece_words (length new.heaps.owners.items) served run
 
 -- What was done at a command, whatever happened before it. An owner's command leaves the manager alone.
 abbrev pub Acts : Command → RealRun → RealRun → List ℕ → List ℕ → Type 0

@@ -4,7 +4,7 @@ use Rattle.replay_real.specs.declared.heaps.Heaps.{Heaps}
 
 -- no piece came, no client has a heap, and no segment came to one
 pub record AreEmpty (heaps : Heaps) : Type 0 where
-  pub takers : heaps.takers.items ≡ []
+  pub owners : heaps.owners.items ≡ []
   pub clients : heaps.clients.entries ≡ []
   pub owned : heaps.owned.items ≡ []
 

@@ -1,6 +1,6 @@
 -- What is seen of the owner of a plain segment: its side and the locks of its pages together.
 use Rattle.std.specs.Prelude.{◌≡◌, ◌≢◌, ℕ, ◌<◌, Bool, true, false, List, length, None}
-use Rattle.machine.specs.Kept.{Kept}
+use Rattle.machine.specs.KeptSegment.{KeptSegment}
 use Rattle.segment.specs.Owned.{Owned}
 use Rattle.segment.specs.declared.owner.Phase.{Phase}
 use Rattle.segment.specs.declared.owner.Phase.TheVariants.{Held, Idle, Gone}
@@ -22,7 +22,7 @@ is_lost Gone = true
 
 -- What an owner keeps of its segment: the locked pages are the held ones, and the last stamp is
 -- its side's. It knows nothing of purge tries, and it has not given the segment back.
-abbrev pub kept_by : Owned → List Bool → Kept
+abbrev pub kept_by : Owned → List Bool → KeptSegment
 kept_by side locks =
     record {
       held = locks;

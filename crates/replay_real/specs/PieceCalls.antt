@@ -16,8 +16,8 @@ use Rattle.client.specs.Seen.{Seen}
 use Rattle.client.specs.Pieces.{Part, bytes_of, part_after_lock, written_run}
 use Rattle.client.specs.Calls.{LocksPart, UnlocksRun, AfterFree}
 use Rattle.client.specs.Finding.{SweepsSome}
+use Rattle.script_heaps.specs.declared.heaps.PieceOwner.{PieceOwner}
 use Rattle.replay_real.specs.declared.heaps.Heaps.{Heaps}
-use Rattle.replay_real.specs.declared.heaps.Taker.{Taker}
 use Rattle.replay_real.specs.Served.{ServedClient, part_at}
 
 -- ---- one piece
@@ -124,9 +124,9 @@ pub record SweepsServed (count : ℕ) (old new : ServedClient) : Type 0 where
 
 -- ---- all clients
 
--- for whom a piece came, or none where no piece of this number did
-abbrev pub taker_at : Heaps → ℕ → Option Taker
-taker_at heaps number = if nat_lt 0 number then slice_get heaps.takers.items (number - 1) else None
+-- the owner of a piece, or none where no piece of this number came
+abbrev pub owner_at : Heaps → ℕ → Option PieceOwner
+owner_at heaps number = if nat_lt 0 number then slice_get heaps.owners.items (number - 1) else None
 
 -- what a client has, or none where no piece ever came to it
 abbrev pub served_at : Heaps → ℕ → Option ServedClient
@@ -138,7 +138,7 @@ pub record CallsClient (client : ℕ) (call : ServedClient → ServedClient → 
   pub is : served_at new client ≡ Some now
   pub calls : call was now
   pub others : (other : ℕ) → other ≢ client → served_at new other ≡ served_at old other
-  pub takers : new.takers ≡ old.takers
+  pub owners : new.owners ≡ old.owners
   pub owned : new.owned ≡ old.owned
   pub standard : new.standard ≡ old.standard
 
@@ -151,22 +151,22 @@ OnClient client call none old new =
 -- changed
 abbrev pub OnPiece : ℕ → SlotCall → Type 0 → Heaps → Heaps → Type 0
 OnPiece number call none old new =
-    MatchOption (taker_at old number) (none × (new ≡ old))
-    (λ taker. OnClient taker.client (CallsAt taker.place call) none old new)
+    MatchOption (owner_at old number) (none × (new ≡ old))
+    (λ owner. OnClient owner.client (CallsAt owner.place call) none old new)
 
 -- the bytes of a range of the piece at a place of what a client has
 abbrev pub client_bytes : Option ServedClient → ℕ → ℕ → ℕ → Option (List ℕ)
 client_bytes None at place count = None
 client_bytes (Some served) at place count = bytes_shown served.client (slot_at served at) place count
 
--- the bytes of a range of the piece that came for this
-abbrev pub taken_bytes : Heaps → Option Taker → ℕ → ℕ → Option (List ℕ)
-taken_bytes heaps None place count = None
-taken_bytes heaps (Some taker) place count = client_bytes (served_at heaps taker.client) taker.place place count
+-- the bytes of a range of the piece of this owner
+abbrev pub owner_bytes : Heaps → Option PieceOwner → ℕ → ℕ → Option (List ℕ)
+owner_bytes heaps None place count = None
+owner_bytes heaps (Some owner) place count = client_bytes (served_at heaps owner.client) owner.place place count
 
 -- the bytes of a range of a piece by its number, or none where a read of them is misuse
 abbrev pub piece_bytes : Heaps → ℕ → ℕ → ℕ → Option (List ℕ)
-piece_bytes heaps number place count = taken_bytes heaps (taker_at heaps number) place count
+piece_bytes heaps number place count = owner_bytes heaps (owner_at heaps number) place count
 
 -- the free runs of a client, the oldest first
 abbrev pub free_runs : Heaps → ℕ → List Run

@@ -10,8 +10,8 @@ pub record ServedClient : Type 0 where
   pub before : ℕ
 
 -- the client owns the piece, if it is there
-abbrev pub IsOwned : Seen → Option Part → Type 0
-IsOwned client slot = IfSome slot (λ part. Owns client part)
+abbrev pub OwnsSlot : Seen → Option Part → Type 0
+OwnsSlot client slot = IfSome slot (λ part. Owns client part)
 
 -- the piece at a place, or none
 abbrev pub part_at : List (Option Part) → ℕ → Option Part
@@ -19,11 +19,11 @@ part_at parts place = slice_index_or parts place None
 
 -- the client owns each piece, and no two have the same pages
 pub record IsServed (client : Seen) (parts : List (Option Part)) : Type 0 where
-  pub owned : (place : ℕ) → IsOwned client (part_at parts place)
+  pub owned : (place : ℕ) → OwnsSlot client (part_at parts place)
   pub once : (one other : ℕ) (a b : Part) → part_at parts one ≡ Some a → part_at parts other ≡ Some b → a.run ≡ b.run → one ≡ other
 
 -- One piece changed, or was given up. It is owned, and has the pages that it had; each piece of other pages that was owned still is.
 pub record KeepsSlot (old new : Seen) (was now : Option Part) : Type 0 where
-  pub owned : IsOwned new now
+  pub owned : OwnsSlot new now
   pub pages : (part : Part) → now ≡ Some part → (before : Part) × (was ≡ Some before) × (part.run ≡ before.run)
   pub others : (part : Part) → Owns old part → ((before : Part) → was ≡ Some before → part.run ≢ before.run) → Owns new part

@@ -8,8 +8,8 @@ use Rattle.machine.specs.History.{client_of}
 use Rattle.discard_book.specs.Live.{grants, granted as granted_by_entries}
 use Rattle.discard_book.specs.declared.entry.Entry.{Entry}
 use Rattle.manager_state.specs.Managed.{Managed}
-use Rattle.line_text.specs.declared.command.Command.{Command}
-use Rattle.line_text.specs.declared.command.Command.TheVariants.{Lock}
+use Rattle.script_text.specs.declared.command.Command.{Command}
+use Rattle.script_text.specs.declared.command.Command.TheVariants.{Lock}
 use Rattle.replay_plain.specs.State.{ReplayState, grants_of, after_event}
 use Rattle.replay_plain.specs.Replies.{answer_text, answered_text}
 use Rattle.script_heaps.specs.Heaps.{no_heaps}

@@ -6,19 +6,12 @@ use crate::script_client::ScriptClient;
 use line_text::MOST_SEGMENT_PAGES;
 use machine::Answer;
 use manager_state::State;
+use script_heaps::PieceOwner;
 use segment::OwnerSide;
 use span_heap::{Heap, Run, Runs};
 use std::alloc::Global;
 use std::collections::BTreeMap;
 use units::NoMemory;
-
-/// For whom a piece came.
-#[derive(Clone, Copy)]
-pub(crate) struct Taker {
-    client: u64,
-    /// The place of the piece among all pieces of the client, counted from 0.
-    place: u64,
-}
 
 /// The clients that pieces came to, the pieces by their numbers, and which segments ever came to a
 /// client's heap.
@@ -28,7 +21,7 @@ pub(crate) struct Heaps {
     standard: u32,
     clients: BTreeMap<u64, ScriptClient>,
     /// By the number of the piece, from 1 on.
-    takers: Vec<Taker>,
+    owners: Vec<PieceOwner>,
     /// By the number of the segment.
     owned: Vec<bool>,
     ghost sized: { (1 ≤ standard) × (standard ≤ MOST_PAGES) },
@@ -41,11 +34,11 @@ impl Heaps {
     ghost use Rattle.units.specs.Moment.{IsMoment};
     ghost use Rattle.segment.specs.declared.owner.Phase.TheVariants as phase;
     ghost use Rattle.machine.specs.declared.event.Answer.TheVariants as answer;
-    ghost use Rattle.line_text.specs.Ranges.{IsClient};
+    ghost use Rattle.script_text.specs.Ranges.{IsClient};
     ghost use Rattle.replay_real.specs.Emptiness.{AreEmpty, is_of_heap};
     ghost use Rattle.replay_real.specs.Standing.{Grows};
     ghost use Rattle.replay_real.specs.Returning.{TellsServed, ReleasesServed, EmptiesServed};
-    ghost use Rattle.replay_real.specs.PieceCalls.{taker_at, OnPiece, OnClient, LocksSlot, UnlocksSlot, WritesSlot, FreesSlot, SweepsServed, piece_bytes, free_runs};
+    ghost use Rattle.replay_real.specs.PieceCalls.{owner_at, OnPiece, OnClient, LocksSlot, UnlocksSlot, WritesSlot, FreesSlot, SweepsServed, piece_bytes, free_runs};
 
     /// No client has anything.
     pub(crate) fn new(alloc: Global, standard: u32) -> Heaps
@@ -54,7 +47,7 @@ impl Heaps {
         Heaps {
             standard: standard.clamp(1, MOST_SEGMENT_PAGES as u32),
             clients: BTreeMap::new(alloc),
-            takers: Vec::new(alloc),
+            owners: Vec::new(alloc),
             owned: Vec::new(alloc),
         }
     }
@@ -80,18 +73,18 @@ impl Heaps {
 
     /// The number of the piece that came last, or 0 where none came.
     pub(crate) fn last_piece(&self) -> u64
-        ensures { result ≡ length self.now.takers.items }
+        ensures { result ≡ length self.now.owners.items }
     {
-        self.takers.len() as u64
+        self.owners.len() as u64
     }
 
-    /// For whom a piece came, if it did.
-    fn taker(&self, number: u64) -> Option<Taker>
-        ensures taker { result ≡ taker_at self.now number }
+    /// The owner of a piece, if it came.
+    fn owner(&self, number: u64) -> Option<PieceOwner>
+        ensures owner { result ≡ owner_at self.now number }
         ensures empty { AreEmpty self.now → result ≡ None }
     {
         let place = number.checked_sub(1)?;
-        self.takers.get(place as usize).copied()
+        self.owners.get(place as usize).copied()
     }
 
     /// Looks for free pages of a client. Those that it finds are the next piece, locked.
@@ -107,7 +100,7 @@ impl Heaps {
         let Some(run) = held.find(pages)? else {
             return Ok(None);
         };
-        self.takers.push(Taker { client, place })?;
+        self.owners.push(PieceOwner { client, place })?;
         Ok(Some(run))
     }
 
@@ -129,7 +122,7 @@ impl Heaps {
     {
         self.mark(side.id())?;
         let (place, run) = self.adopt_first(alloc, client, side, pages, now)?;
-        self.takers.push(Taker { client, place })?;
+        self.owners.push(PieceOwner { client, place })?;
         Ok(run)
     }
 
@@ -182,11 +175,11 @@ impl Heaps {
         ensures locks { OnPiece number (LocksSlot result) (result ≡ answer.Misuse)
             self.old self.new }
     {
-        let Some(taker) = self.taker(number) else {
+        let Some(owner) = self.owner(number) else {
             return Answer::Misuse;
         };
-        match self.clients.get_mut(&taker.client) {
-            Some(held) => held.lock(taker.place),
+        match self.clients.get_mut(&owner.client) {
+            Some(held) => held.lock(owner.place),
             None => Answer::Misuse,
         }
     }
@@ -199,11 +192,11 @@ impl Heaps {
         ensures misuse { AreEmpty self.old → result ≡ answer.Misuse }
         ensures empty { AreEmpty self.old → AreEmpty self.new }
     {
-        let Some(taker) = self.taker(number) else {
+        let Some(owner) = self.owner(number) else {
             return Answer::Misuse;
         };
-        match self.clients.get_mut(&taker.client) {
-            Some(held) => held.unlock(taker.place, now),
+        match self.clients.get_mut(&owner.client) {
+            Some(held) => held.unlock(owner.place, now),
             None => Answer::Misuse,
         }
     }
@@ -217,11 +210,11 @@ impl Heaps {
         ensures misuse { AreEmpty self.old → result ≡ answer.Misuse }
         ensures empty { AreEmpty self.old → AreEmpty self.new }
     {
-        let Some(taker) = self.taker(number) else {
+        let Some(owner) = self.owner(number) else {
             return Answer::Misuse;
         };
-        match self.clients.get_mut(&taker.client) {
-            Some(held) => held.write(taker.place, at, bytes),
+        match self.clients.get_mut(&owner.client) {
+            Some(held) => held.write(owner.place, at, bytes),
             None => Answer::Misuse,
         }
     }
@@ -235,9 +228,9 @@ impl Heaps {
         ensures none { AreEmpty self.now → result ≡ None }
         ensures few { IfSome result (λ bytes. length bytes.now ≤ count) }
     {
-        let taker = self.taker(number)?;
-        match self.clients.get(&taker.client) {
-            Some(held) => held.read(taker.place, at, count),
+        let owner = self.owner(number)?;
+        match self.clients.get(&owner.client) {
+            Some(held) => held.read(owner.place, at, count),
             None => None,
         }
     }
@@ -250,9 +243,9 @@ impl Heaps {
         ensures none { AreEmpty self.old → result ≡ None }
         ensures empty { AreEmpty self.old → AreEmpty self.new }
     {
-        let taker = self.taker(number)?;
-        match self.clients.get_mut(&taker.client) {
-            Some(held) => held.free(taker.place, now),
+        let owner = self.owner(number)?;
+        match self.clients.get_mut(&owner.client) {
+            Some(held) => held.free(owner.place, now),
             None => None,
         }
     }

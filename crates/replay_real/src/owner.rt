@@ -28,10 +28,10 @@ pub(crate) struct Owner {
 }
 
 impl Model for Owner {
-    ghost use Rattle.machine.specs.Kept.{Kept};
+    ghost use Rattle.machine.specs.KeptSegment.{KeptSegment};
     ghost use Rattle.replay_real.specs.Owner.{kept_by, IsOwner};
 
-    ghost Value = { Kept };
+    ghost Value = { KeptSegment };
 
     ghost view = { λ o. kept_by o.side o.locks };
 
@@ -73,12 +73,12 @@ impl Owner {
     }
 
     /// Unlocks a range of pages at a moment. Where no page stays locked, the side makes its step.
-    pub(crate) fn unlock(&mut self, first: u32, count: u32, at: u64) -> Answer
-        requires { IsMoment at }
+    pub(crate) fn unlock(&mut self, first: u32, count: u32, now: u64) -> Answer
+        requires { IsMoment now }
         ensures answer { (h : History) (s : ℕ) → Shows h s self.old
-            → result ≡ answer_of h (event.Unlock s first count at) }
+            → result ≡ answer_of h (event.Unlock s first count now) }
         ensures after { (h : History) (s : ℕ) → Shows h s self.old
-            → Shows ((event.Unlock s first count at, result) ∷ h) s self.new }
+            → Shows ((event.Unlock s first count now, result) ∷ h) s self.new }
     {
         if !self.locks.is_locked(first, count) {
             return Answer::Misuse;
@@ -88,7 +88,7 @@ impl Owner {
         if staying > 0 {
             return Answer::StillHeld { pages: staying };
         }
-        self.side.unlock(at);
+        self.side.unlock(now);
         Answer::Idle {
             at: self.side.last(),
         }

@@ -41,16 +41,16 @@ impl Given {
     }
 
     /// Unlocks a range of pages at a moment; misuse where the segment is not plain.
-    fn unlock(&mut self, first: u32, count: u32, at: u64) -> Answer
-        requires { IsMoment at }
+    fn unlock(&mut self, first: u32, count: u32, now: u64) -> Answer
+        requires { IsMoment now }
         ensures answer { (h : History) (id : ℕ) → ShowsAt h id self.old.owner
-            → result ≡ answer_of h (event.Unlock id first count at) }
+            → result ≡ answer_of h (event.Unlock id first count now) }
         ensures after { (h : History) (id : ℕ) → ShowsAt h id self.old.owner
-            → ShowsAt ((event.Unlock id first count at, result) ∷ h) id self.new.owner }
+            → ShowsAt ((event.Unlock id first count now, result) ∷ h) id self.new.owner }
         ensures client { self.new.client ≡ self.old.client }
     {
         match &mut self.owner {
-            Some(owner) => owner.unlock(first, count, at),
+            Some(owner) => owner.unlock(first, count, now),
             None => Answer::Misuse,
         }
     }
@@ -195,12 +195,12 @@ impl Owners {
 
     /// Unlocks a range of pages of the segment of a number at a moment; misuse where it is not
     /// plain.
-    pub(crate) fn unlock(&mut self, id: u64, first: u32, count: u32, at: u64) -> Answer
-        requires { IsMoment at }
+    pub(crate) fn unlock(&mut self, id: u64, first: u32, count: u32, now: u64) -> Answer
+        requires { IsMoment now }
         ensures answer { (h : History) → ShowsEach h self.old
-            → result ≡ answer_of h (event.Unlock id first count at) }
+            → result ≡ answer_of h (event.Unlock id first count now) }
         ensures after { (h : History) → ShowsEach h self.old
-            → ShowsEach ((event.Unlock id first count at, result) ∷ h) self.new }
+            → ShowsEach ((event.Unlock id first count now, result) ∷ h) self.new }
         ensures clients { KeepsClients self.old self.new }
         ensures places { length self.new ≡ length self.old }
     {
@@ -208,7 +208,7 @@ impl Owners {
             return Answer::Misuse;
         }
         let given = &mut self.given[id as usize];
-        given.unlock(first, count, at)
+        given.unlock(first, count, now)
     }
 
     /// Writes bytes at a place of the segment of a number; misuse where it is not plain.

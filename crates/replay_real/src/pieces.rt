@@ -3,14 +3,14 @@ ghost use Rattle.std.specs.Prelude.{◌≡◌, ◌≤◌, ◌<◌, ◌+◌, ◌^
 ghost use Rattle.units.specs.declared.TheConstants.{MOST_PAGES};
 ghost use Rattle.units.specs.Moment.{IsMoment};
 ghost use Rattle.line_text.specs.declared.limits.TheConstants.{MOST_SEGMENT_PAGES};
-ghost use Rattle.line_text.specs.declared.command.Command.TheVariants as command;
-ghost use Rattle.line_text.specs.Ranges.{IsClient, IsPieceSize};
+ghost use Rattle.script_text.specs.declared.command.Command.TheVariants as command;
+ghost use Rattle.script_text.specs.Ranges.{IsClient, IsPieceSize};
 ghost use Rattle.replay_plain.specs.State.{ReplayState};
 ghost use Rattle.replay_plain.specs.Commands.{state_after};
 ghost use Rattle.replay_plain.specs.Replies.{reply_of, runs_words};
 ghost use Rattle.replay_real.specs.Standing.{RealStandsFor, Follows, AppendsWords, Grows};
 ghost use Rattle.replay_real.specs.PieceCalls.{LocksSlot, UnlocksSlot, WritesSlot, piece_bytes, free_runs};
-ghost use Rattle.replay_plain.specs.Pieces.{pages_for};
+ghost use Rattle.units.specs.Sizes.{pages_for};
 ghost use Rattle.replay_real.specs.Acts.{AllocatesAndTells, BeginsPiece, GrantsPiece, AnswersPiece, FreesAndTells, SweepsAndTells, ReleasesAndTells, shown_words};
 
 use crate::run::RealRun;
@@ -29,13 +29,13 @@ impl RealRun {
         alloc: Global,
         client: u64,
         size: u64,
-        at: u64,
+        now: u64,
         reply: &mut Vec<u8>,
     ) -> Result<(), NoMemory>
         requires client { IsClient client }
         requires size { IsPieceSize size }
-        requires moment { IsMoment at }
-        ensures tells { OnOk result (AllocatesAndTells client (pages_for size) at
+        requires moment { IsMoment now }
+        ensures tells { OnOk result (AllocatesAndTells client (pages_for size) now
             self.old self.new reply.old.items reply.new.items) }
         ensures words { OnOk result (AppendsWords reply.old.items reply.new.items) }
         ensures book { Grows self.old.state.entries self.new.state.entries }
@@ -44,7 +44,7 @@ impl RealRun {
         match self.heaps.find(client, pages)? {
             Some(run) => push_piece(reply, self.heaps.last_piece(), true, run),
             None => {
-                let run = self.begin_segment(alloc, client, pages, at)?;
+                let run = self.begin_segment(alloc, client, pages, now)?;
                 push_piece(reply, self.heaps.last_piece(), false, run)
             }
         }
@@ -57,32 +57,32 @@ impl RealRun {
         alloc: Global,
         client: u64,
         pages: u32,
-        at: u64,
+        now: u64,
     ) -> Result<Run, NoMemory>
         requires client { IsClient client }
         requires pages { (1 ≤ pages) × (pages ≤ MOST_SEGMENT_PAGES) }
-        requires moment { IsMoment at }
-        ensures begins { IfOk result (λ run. BeginsPiece client pages at run self.old self.new) }
+        requires moment { IsMoment now }
+        ensures begins { IfOk result (λ run. BeginsPiece client pages now run self.old self.new) }
         ensures book { Grows self.old.state.entries self.new.state.entries }
     {
         self.heaps.sweep(client);
         self.heaps.tell(client, &mut self.state);
-        self.adopt(alloc, client, pages, at)
+        self.adopt(alloc, client, pages, now)
     }
 
     /// Grants a client a segment, whose first pages are the next piece.
-    fn adopt(&mut self, alloc: Global, client: u64, pages: u32, at: u64) -> Result<Run, NoMemory>
+    fn adopt(&mut self, alloc: Global, client: u64, pages: u32, now: u64) -> Result<Run, NoMemory>
         requires client { IsClient client }
         requires pages { (1 ≤ pages) × (pages ≤ MOST_SEGMENT_PAGES) }
-        requires moment { IsMoment at }
-        ensures grants { IfOk result (λ run. GrantsPiece client pages at self.old.heaps.standard
+        requires moment { IsMoment now }
+        ensures grants { IfOk result (λ run. GrantsPiece client pages now self.old.heaps.standard
             run self.old.state self.new.state) }
         ensures book { Grows self.old.state.entries self.new.state.entries }
     {
         let whole = pages.max(self.heaps.standard());
-        let side = self.state.grant(alloc, client as u32, whole, at)?;
+        let side = self.state.grant(alloc, client as u32, whole, now)?;
         self.owners.add_nobody()?;
-        self.heaps.adopt(alloc, client, side, pages, at)
+        self.heaps.adopt(alloc, client, side, pages, now)
     }
 
     /// Adds the reply to a lock of a piece.
@@ -99,20 +99,20 @@ impl RealRun {
     pub(crate) fn unlock_piece(
         &mut self,
         piece: u64,
-        at: u64,
+        now: u64,
         reply: &mut Vec<u8>,
     ) -> Result<(), NoMemory>
-        requires { IsMoment at }
+        requires { IsMoment now }
         ensures follows { OnOk result ((state : ReplayState) → RealStandsFor self.old state
             → Follows self.new reply.old.items reply.new.items
-            (reply_of state (command.PieceUnlock piece at))
-            (state_after state (command.PieceUnlock piece at))) }
-        ensures tells { OnOk result (AnswersPiece piece (UnlocksSlot at)
+            (reply_of state (command.PieceUnlock piece now))
+            (state_after state (command.PieceUnlock piece now))) }
+        ensures tells { OnOk result (AnswersPiece piece (UnlocksSlot now)
             self.old self.new reply.old.items reply.new.items) }
         ensures words { OnOk result (AppendsWords reply.old.items reply.new.items) }
         ensures state { self.new.state ≡ self.old.state }
     {
-        push_answer(reply, self.heaps.unlock(piece, at))
+        push_answer(reply, self.heaps.unlock(piece, now))
     }
 
     /// Adds the reply to a write of bytes to a piece.
@@ -162,20 +162,20 @@ impl RealRun {
     pub(crate) fn free_piece(
         &mut self,
         piece: u64,
-        at: u64,
+        now: u64,
         reply: &mut Vec<u8>,
     ) -> Result<(), NoMemory>
-        requires { IsMoment at }
+        requires { IsMoment now }
         ensures follows { OnOk result ((state : ReplayState) → RealStandsFor self.old state
             → Follows self.new reply.old.items reply.new.items
-            (reply_of state (command.PieceFree piece at))
-            (state_after state (command.PieceFree piece at))) }
-        ensures tells { OnOk result (FreesAndTells piece at
+            (reply_of state (command.PieceFree piece now))
+            (state_after state (command.PieceFree piece now))) }
+        ensures tells { OnOk result (FreesAndTells piece now
             self.old self.new reply.old.items reply.new.items) }
         ensures words { OnOk result (AppendsWords reply.old.items reply.new.items) }
         ensures state { self.new.state ≡ self.old.state }
     {
-        match self.heaps.free(piece, at) {
+        match self.heaps.free(piece, now) {
             Some(there) => push_freed(reply, there),
             None => push_answer(reply, Answer::Misuse),
         }

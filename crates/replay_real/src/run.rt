@@ -8,8 +8,8 @@ ghost use Rattle.block_pool.specs.Stock.{no_blocks};
 ghost use Rattle.discard_book.specs.Legal.{room};
 ghost use Rattle.discard_book.specs.Live.{granted as granted_pages};
 ghost use Rattle.manager_state.specs.Calls.{limit_under};
-ghost use Rattle.line_text.specs.declared.command.Command.TheVariants as command;
-ghost use Rattle.line_text.specs.Ranges.{IsInRange};
+ghost use Rattle.script_text.specs.declared.command.Command.TheVariants as command;
+ghost use Rattle.script_text.specs.Ranges.{IsInRange};
 ghost use Rattle.replay_plain.specs.State.{ReplayState, first_state, after_event};
 ghost use Rattle.replay_plain.specs.Commands.{after_grant, state_after, is_finding, pressed};
 ghost use Rattle.replay_plain.specs.Replies.{answered_text, read_text, grant_text, granted_text};
@@ -24,13 +24,13 @@ ghost use Rattle.replay_real.specs.Acts.{RemovesAndTells, BacksAndTells, try_ans
 use crate::heaps::Heaps;
 use crate::owners::Owners;
 use discard_book::Entry;
-use line_text::Command;
 use lru_reduce::Reduced;
 use machine::Answer;
 use manager_state::{Back, Level, State, Tried};
 use replay_plain::{
     ReplayCfg, push_answer, push_back_answer, push_granted, push_hex, push_reduced, push_removed,
 };
+use script_text::Command;
 use std::alloc::Global;
 use units::NoMemory;
 
@@ -110,7 +110,7 @@ impl RealRun {
                 self.write(*id, *place, bytes.as_slice(), reply)
             }
             Command::Read { id, place, count } => self.read(*id, *place, *count, reply),
-            Command::Try { id, at } => self.try_one(*id, *at, reply),
+            Command::Try { id, at } => self.try_purge(*id, *at, reply),
             Command::Back { id } => self.back_numbered(*id, reply),
             Command::Reduce { limit, at } => self.reduce(alloc, *limit, *at, reply),
             Command::Enforce { at } => self.enforce(alloc, *at, reply),
@@ -146,22 +146,22 @@ impl RealRun {
         alloc: Global,
         client: u32,
         pages: u32,
-        at: u64,
+        now: u64,
         reply: &mut Vec<u8>,
     ) -> Result<(), NoMemory>
         requires client { 1 ≤ client }
         requires pages { (1 ≤ pages) × (pages ≤ MOST_PAGES) }
-        requires moment { IsMoment at }
+        requires moment { IsMoment now }
         ensures follows { OnOk result ((state : ReplayState) → RealStandsFor self.old state
             → nat_lt (room state.limit pages) (granted state.events) ≡ false
             → Follows self.new reply.old.items reply.new.items
             (grant_text state client pages) (after_grant state client pages)) }
-        ensures grants { OnOk result (GrantsAndTells client pages at
+        ensures grants { OnOk result (GrantsAndTells client pages now
             self.old.state self.new.state reply.old.items reply.new.items) }
         ensures words { OnOk result (AppendsWords reply.old.items reply.new.items) }
         ensures book { Grows self.old.state.entries self.new.state.entries }
     {
-        let side = self.state.grant(alloc, client, pages, at)?;
+        let side = self.state.grant(alloc, client, pages, now)?;
         let id = side.id();
         self.owners.add(alloc, client, side)?;
         push_answer(reply, Answer::Granted { id })
@@ -184,18 +184,18 @@ impl RealRun {
         id: u64,
         first: u32,
         count: u32,
-        at: u64,
+        now: u64,
         reply: &mut Vec<u8>,
     ) -> Result<(), NoMemory>
-        requires { IsMoment at }
+        requires { IsMoment now }
         ensures follows { OnOk result ((state : ReplayState) → RealStandsFor self.old state
             → Follows self.new reply.old.items reply.new.items
-            (answered_text state (event.Unlock id first count at))
-            (after_event state (event.Unlock id first count at))) }
+            (answered_text state (event.Unlock id first count now))
+            (after_event state (event.Unlock id first count now))) }
         ensures words { OnOk result (AppendsWords reply.old.items reply.new.items) }
         ensures state { self.new.state ≡ self.old.state }
     {
-        push_answer(reply, self.owners.unlock(id, first, count, at))
+        push_answer(reply, self.owners.unlock(id, first, count, now))
     }
 
     /// Adds the reply to a write of bytes at a place.
@@ -233,14 +233,14 @@ impl RealRun {
     }
 
     /// Adds the reply to a purge try at a moment.
-    fn try_one(&mut self, id: u64, at: u64, reply: &mut Vec<u8>) -> Result<(), NoMemory>
-        requires { IsMoment at }
-        ensures tells { OnOk result (TriesAndTells id at
+    fn try_purge(&mut self, id: u64, now: u64, reply: &mut Vec<u8>) -> Result<(), NoMemory>
+        requires { IsMoment now }
+        ensures tells { OnOk result (TriesAndTells id now
             self.old.state self.new.state reply.old.items reply.new.items) }
         ensures words { OnOk result (AppendsWords reply.old.items reply.new.items) }
         ensures book { Grows self.old.state.entries self.new.state.entries }
     {
-        let told = self.state.try_one(id, at);
+        let told = self.state.try_one(id, now);
         push_answer(reply, answer_to_try(told))
     }
 
@@ -275,30 +275,30 @@ impl RealRun {
         &mut self,
         alloc: Global,
         limit: u64,
-        at: u64,
+        now: u64,
         reply: &mut Vec<u8>,
     ) -> Result<(), NoMemory>
-        requires { IsMoment at }
-        ensures tells { OnOk result (ReducesAndTells limit at
+        requires { IsMoment now }
+        ensures tells { OnOk result (ReducesAndTells limit now
             self.old.state self.new.state reply.old.items reply.new.items) }
         ensures words { OnOk result (AppendsWords reply.old.items reply.new.items) }
         ensures book { Grows self.old.state.entries self.new.state.entries }
     {
         let before = self.entries().len();
-        let told = self.state.reduce_to(alloc, limit, at)?;
+        let told = self.state.reduce_to(alloc, limit, now)?;
         self.tell(before, told, reply)
     }
 
     /// Adds the reply to a reduction to the manager's limit at a moment.
-    fn enforce(&mut self, alloc: Global, at: u64, reply: &mut Vec<u8>) -> Result<(), NoMemory>
-        requires { IsMoment at }
-        ensures tells { OnOk result (ReducesAndTells self.old.state.limit at
+    fn enforce(&mut self, alloc: Global, now: u64, reply: &mut Vec<u8>) -> Result<(), NoMemory>
+        requires { IsMoment now }
+        ensures tells { OnOk result (ReducesAndTells self.old.state.limit now
             self.old.state self.new.state reply.old.items reply.new.items) }
         ensures words { OnOk result (AppendsWords reply.old.items reply.new.items) }
         ensures book { Grows self.old.state.entries self.new.state.entries }
     {
         let before = self.entries().len();
-        let told = self.state.enforce(alloc, at)?;
+        let told = self.state.enforce(alloc, now)?;
         self.tell(before, told, reply)
     }
 
@@ -307,17 +307,17 @@ impl RealRun {
         &mut self,
         alloc: Global,
         critical: bool,
-        at: u64,
+        now: u64,
         reply: &mut Vec<u8>,
     ) -> Result<(), NoMemory>
-        requires { IsMoment at }
-        ensures tells { OnOk result (ReducesAndTells (pressed critical self.old.state.limit) at
+        requires { IsMoment now }
+        ensures tells { OnOk result (ReducesAndTells (pressed critical self.old.state.limit) now
             self.old.state self.new.state reply.old.items reply.new.items) }
         ensures words { OnOk result (AppendsWords reply.old.items reply.new.items) }
         ensures book { Grows self.old.state.entries self.new.state.entries }
     {
         let before = self.entries().len();
-        let told = self.state.pressure(alloc, level(critical), at)?;
+        let told = self.state.pressure(alloc, level(critical), now)?;
         self.tell(before, told, reply)
     }
 
@@ -326,17 +326,17 @@ impl RealRun {
         &mut self,
         alloc: Global,
         limit: u64,
-        at: u64,
+        now: u64,
         reply: &mut Vec<u8>,
     ) -> Result<(), NoMemory>
-        requires { IsMoment at }
-        ensures tells { OnOk result (SetsAndTells limit at
+        requires { IsMoment now }
+        ensures tells { OnOk result (SetsAndTells limit now
             self.old.state self.new.state reply.old.items reply.new.items) }
         ensures words { OnOk result (AppendsWords reply.old.items reply.new.items) }
         ensures book { Grows self.old.state.entries self.new.state.entries }
     {
         let before = self.entries().len();
-        let told = self.state.set_limit(alloc, limit, at)?;
+        let told = self.state.set_limit(alloc, limit, now)?;
         self.tell(before, told, reply)
     }
 

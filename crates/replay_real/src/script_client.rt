@@ -7,7 +7,7 @@ ghost use Rattle.span_heap.specs.Runs.{front_of};
 ghost use Rattle.span_heap.specs.Changes.{whole_of};
 ghost use Rattle.client.specs.Seen.{IsUnknown};
 ghost use Rattle.client.specs.Pieces.{Owns, AllStay};
-ghost use Rattle.replay_real.specs.Served.{IsOwned, KeepsSlot};
+ghost use Rattle.replay_real.specs.Served.{OwnsSlot, KeepsSlot};
 ghost use Rattle.replay_real.specs.PieceCalls.{CallsAt, LocksSlot, UnlocksSlot, WritesSlot, FreesSlot, SweepsServed, bytes_shown, slot_at, is_shown};
 ghost use Rattle.replay_real.specs.Returning.{HandsBack, HandsInAll, ReleasesFree, TellsAll, KeepsParts};
 ghost use Rattle.replay_real.specs.Standing.{Grows};
@@ -237,7 +237,7 @@ fn run_of(piece: &Piece) -> Run
 
 /// Locks a piece: misuse where it is not there, or is locked.
 fn lock_slot(client: &mut Client, slot: &mut Option<Piece>) -> Answer
-    requires { IsOwned client.old slot.old }
+    requires { OwnsSlot client.old slot.old }
     ensures keeps { KeepsSlot client.old client.new slot.old slot.new }
     ensures locks { LocksSlot result slot.old slot.new client.old client.new }
 {
@@ -255,7 +255,7 @@ fn lock_slot(client: &mut Client, slot: &mut Option<Piece>) -> Answer
 
 /// Unlocks a piece at a moment: misuse where it is not there, or is not locked.
 fn unlock_slot(client: &mut Client, slot: &mut Option<Piece>, now: u64) -> Answer
-    requires owned { IsOwned client.old slot.old }
+    requires owned { OwnsSlot client.old slot.old }
     requires moment { IsMoment now }
     ensures keeps { KeepsSlot client.old client.new slot.old slot.new }
     ensures unlocks { UnlocksSlot now result slot.old slot.new client.old client.new }
@@ -275,7 +275,7 @@ fn unlock_slot(client: &mut Client, slot: &mut Option<Piece>, now: u64) -> Answe
 /// Writes bytes to a piece from the byte `at` on: misuse where it is not there or not locked, or where
 /// they pass its pages.
 fn write_slot(client: &mut Client, slot: &Option<Piece>, at: u64, bytes: &[u8]) -> Answer
-    requires owned { IsOwned client.old slot.now }
+    requires owned { OwnsSlot client.old slot.now }
     requires near { at + length bytes.now ≤ 2 ^ 32 }
     ensures keeps { KeepsSlot client.old client.new slot.now slot.now }
     ensures writes { WritesSlot at bytes.now result slot.now slot.now client.old client.new }
@@ -293,7 +293,7 @@ fn write_slot(client: &mut Client, slot: &Option<Piece>, at: u64, bytes: &[u8]) 
 /// The bytes of a piece, `count` of them from the byte `at` on. None where it is not there or not locked,
 /// or where they pass its pages.
 fn read_slot<'a>(client: &'a Client, slot: &Option<Piece>, at: u64, count: u64) -> Option<&'a [u8]>
-    requires owned { IsOwned client.now slot.now }
+    requires owned { OwnsSlot client.now slot.now }
     requires near { at + count ≤ 2 ^ 32 }
     ensures few { IfSome result (λ bytes. length bytes.now ≤ count) }
     ensures shown { option_map (λ bytes. bytes.now) result
@@ -321,7 +321,7 @@ fn is_shown(piece: &Piece, at: u64, count: u64) -> bool
 /// Gives a piece up at a moment, and answers whether its segment was not known to be gone. None where it
 /// is not there.
 fn free_slot(client: &mut Client, slot: &mut Option<Piece>, now: u64) -> Option<bool>
-    requires owned { IsOwned client.old slot.old }
+    requires owned { OwnsSlot client.old slot.old }
     requires moment { IsMoment now }
     ensures keeps { KeepsSlot client.old client.new slot.old slot.new }
     ensures frees { FreesSlot now result slot.old slot.new client.old client.new }

@@ -7,15 +7,15 @@ use Rattle.machine.specs.History.{number_of}
 use Rattle.machine.specs.Answers.{granted, live}
 use Rattle.discard_book.specs.declared.entry.Entry.{Entry}
 use Rattle.discard_book.specs.Legal.{room}
-use Rattle.line_text.specs.declared.command.Command.{Command}
-use Rattle.line_text.specs.declared.command.Command.TheVariants.{Grant, Lock, Unlock, Write, Read, Try, Back, Reduce, Enforce, Pressure, Limit, Remove, Alloc, PieceLock, PieceUnlock, PieceWrite, PieceRead, PieceFree, Sweep, Release, Runs, Granted}
+use Rattle.script_text.specs.declared.command.Command.{Command}
+use Rattle.script_text.specs.declared.command.Command.TheVariants.{Grant, Lock, Unlock, Write, Read, Try, Back, Reduce, Enforce, Pressure, Limit, Remove, Alloc, PieceLock, PieceUnlock, PieceWrite, PieceRead, PieceFree, Sweep, Release, Runs, Granted}
 use Rattle.replay_plain.specs.State.{ReplayState, after_event, after_events, entries_of, next_grant, grants_of}
 use Rattle.replay_plain.specs.Reductions.{after_reduction, reduction, reduced_entry, with_room}
 use Rattle.span_heap.specs.declared.run.Run.{Run}
 use Rattle.span_heap.specs.Run.{pages_of}
 use Rattle.span_heap.specs.Runs.{front_of}
 use Rattle.script_heaps.specs.Holding.{lost, all_free}
-use Rattle.script_heaps.specs.Heaps.{taker_of, piece_of}
+use Rattle.script_heaps.specs.Heaps.{owner_of, piece_of}
 use Rattle.replay_plain.specs.Pieces.{pages_for, holding_of, with_holding, lock_of, unlock_of, write_of, fits_in, on_piece, picked, is_lost, after_loss, found_none, found_run, found_within, find, after_sweep, after_telling, new_pages, before_adoption, with_free_rest, after_adoption, after_search, after_allocation, after_piece_lock, after_piece_unlock, after_piece_write, after_piece_free}
 use Rattle.replay_plain.specs.Commands.{state_after, after_numbered, added, pressed, returns_of}
 
@@ -64,7 +64,7 @@ by_piece state (Some run) next grown = grown run
 by_lock : (state : ReplayState) (piece : ℕ) (run : Run) → Grown state (after_piece_lock state piece run)
 by_lock state piece run = by_test (live state.events run.segment)
   where
-    by_test : (b : Bool) → Grown state (cond b (after_event state (lock_of run)) (with_holding (after_event state (lock_of run)) (taker_of state.heaps piece).client (lost (holding_of state (taker_of state.heaps piece).client) run.segment)))
+    by_test : (b : Bool) → Grown state (cond b (after_event state (lock_of run)) (with_holding (after_event state (lock_of run)) (owner_of state.heaps piece).client (lost (holding_of state (owner_of state.heaps piece).client) run.segment)))
     by_test true = by_event state (lock_of run)
     by_test false = by_event state (lock_of run)
 

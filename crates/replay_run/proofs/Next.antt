@@ -3,8 +3,8 @@ use Rattle.std.proofs.Common.{◌≡◌, ℕ, Bool, true, false, ◌||◌, List,
 use Rattle.std.proofs.lemmas.Bool.{false≢true}
 use Rattle.std.proofs.lemmas.List.{take_all}
 use Rattle.discard_book.specs.declared.entry.Entry.{Entry}
-use Rattle.line_text.specs.declared.command.Command.{Command}
-use Rattle.line_text.specs.Script.{Commands}
+use Rattle.script_text.specs.declared.command.Command.{Command}
+use Rattle.script_text.specs.Script.{Commands}
 use Rattle.replay_plain.specs.State.{ReplayState}
 use Rattle.replay_plain.specs.Commands.{state_after, state_after_all, is_finding, has_finding, added}
 use Rattle.replay_plain.specs.Replies.{reply_of}

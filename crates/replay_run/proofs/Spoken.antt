@@ -6,8 +6,8 @@ use Rattle.machine.specs.declared.event.Event.{Event}
 use Rattle.machine.specs.declared.event.Event.TheVariants as event
 use Rattle.machine.specs.History.{number_of}
 use Rattle.machine.specs.declared.event.Answer.TheVariants as answers
-use Rattle.line_text.specs.declared.command.Command.{Command}
-use Rattle.line_text.specs.declared.command.Command.TheVariants.{Grant, Lock, Unlock, Write, Read, Try, Back, Reduce, Enforce, Pressure, Limit, Remove, Alloc, PieceLock, PieceUnlock, PieceWrite, PieceRead, PieceFree, Sweep, Release, Runs, Granted}
+use Rattle.script_text.specs.declared.command.Command.{Command}
+use Rattle.script_text.specs.declared.command.Command.TheVariants.{Grant, Lock, Unlock, Write, Read, Try, Back, Reduce, Enforce, Pressure, Limit, Remove, Alloc, PieceLock, PieceUnlock, PieceWrite, PieceRead, PieceFree, Sweep, Release, Runs, Granted}
 use Rattle.replay_plain.specs.State.{ReplayState}
 use Rattle.replay_plain.specs.Replies.{answer_text, answered_text, misuse_text, numbered_text, back_text, read_text, reduced_text, piece_text, piece_lock_text, piece_unlock_text, piece_write_text, piece_read_text, piece_free_text, searched_text, reply_of}
 use Rattle.replay_plain.specs.Pieces.{pages_for, find, lock_of, place_in, write_of, fits_in}

@@ -1,9 +1,9 @@
 -- One line more of a script.
 use Rattle.std.proofs.Common.{◌≡◌, ℕ, ◌+◌, ◌<◌, [], ◌∷◌, ◌++◌, length, take, get_or, sym, ap, ◌∙◌, subst, arith, suc, zero}
 use Rattle.std.proofs.lemmas.List.{take_more}
-use Rattle.line_text.specs.declared.command.Command.{Command}
-use Rattle.line_text.specs.Script.{Commands}
-use Rattle.line_text.specs.Ranges.{IsInRange, AreInRange}
+use Rattle.script_text.specs.declared.command.Command.{Command}
+use Rattle.script_text.specs.Script.{Commands}
+use Rattle.script_text.specs.Ranges.{IsInRange, AreInRange}
 use Rattle.replay_plain.specs.State.{ReplayState}
 use Rattle.replay_run.specs.declared.both.BothRuns.{BothRuns}
 use Rattle.replay_run.specs.Both.{BothStand}

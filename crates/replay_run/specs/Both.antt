@@ -1,8 +1,8 @@
 -- What both runs of a script keep.
 use Rattle.std.specs.Prelude.{◌≡◌, ℕ, false, List, ◌++◌, Option, Some, None}
 use Rattle.discard_book.specs.declared.entry.Entry.{Entry}
-use Rattle.line_text.specs.declared.command.Command.{Command}
-use Rattle.line_text.specs.Script.{Commands}
+use Rattle.script_text.specs.declared.command.Command.{Command}
+use Rattle.script_text.specs.Script.{Commands}
 use Rattle.replay_plain.specs.State.{ReplayState}
 use Rattle.replay_plain.specs.Commands.{state_after, state_after_all, is_finding, has_finding}
 use Rattle.replay_plain.specs.Replies.{reply_of}

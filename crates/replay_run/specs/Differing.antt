@@ -1,7 +1,7 @@
 -- The first difference of two runs.
 use Rattle.std.specs.Prelude.{◌≡◌, ◌≢◌, true, [], ◌∷◌, ◌++◌}
-use Rattle.line_text.specs.declared.command.Command.{Command}
-use Rattle.line_text.specs.Script.{Commands}
+use Rattle.script_text.specs.declared.command.Command.{Command}
+use Rattle.script_text.specs.Script.{Commands}
 use Rattle.replay_plain.specs.State.{ReplayState}
 use Rattle.replay_plain.specs.Commands.{state_after_all, has_finding}
 use Rattle.replay_plain.specs.Records.{record_of}

@@ -5,11 +5,11 @@ use Rattle.units.specs.Count.{HasRisen}
 use Rattle.discard_io.specs.declared.status.Status.{Status}
 use Rattle.discard_io.specs.declared.status.Status.TheVariants.{Done, NoMemory, Usage, BadInput, ReadFault, WriteFault, FileFault}
 use Rattle.discard_io.specs.Streams.{Took, TookAll, TookAtMost, appended, WroteFront}
-use Rattle.line_text.specs.declared.limits.TheConstants.{MOST_SCRIPT_BYTES}
-use Rattle.line_text.specs.declared.fault.ScriptFault.{ScriptFault}
-use Rattle.line_text.specs.declared.fault.ScriptFault.TheVariants.{Bad}
-use Rattle.line_text.specs.declared.fault.ScriptFault.TheVariants as memory
-use Rattle.line_text.specs.Script.{Commands, IsScript, IsRefused}
+use Rattle.line_text.specs.declared.limits.TheConstants.{MOST_TEXT_BYTES}
+use Rattle.script_text.specs.declared.fault.ScriptFault.{ScriptFault}
+use Rattle.script_text.specs.declared.fault.ScriptFault.TheVariants.{Bad}
+use Rattle.script_text.specs.declared.fault.ScriptFault.TheVariants as memory
+use Rattle.script_text.specs.Script.{Commands, IsScript, IsRefused}
 use Rattle.manager_state.specs.Managed.{Managed}
 use Rattle.replay_plain.specs.declared.config.ReplayCfg.{ReplayCfg}
 use Rattle.replay_plain.specs.State.{first_state}
@@ -66,14 +66,14 @@ pub record InputRefused (place cause : ℕ) (before after : Devices) : Type 0 wh
   pub bytes : List ℕ
   pub taken : Took before.left bytes after.left
   pub refused : IsRefused bytes place cause
-  pub within : length bytes ≤ MOST_SCRIPT_BYTES + 1
-  pub all : IfSome before.left (λ left. (bytes ≡ take (MOST_SCRIPT_BYTES + 1) left) × IsRefused left place cause)
+  pub within : length bytes ≤ MOST_TEXT_BYTES + 1
+  pub all : IfSome before.left (λ left. (bytes ≡ take (MOST_TEXT_BYTES + 1) left) × IsRefused left place cause)
   pub unwritten : after.written ≡ before.written
 
 -- the source failed, and nothing was written
 pub record SourceFailed (before after : Devices) : Type 0 where
   pub fault : HasRisen before.read_faults after.read_faults
-  pub taken : TookAtMost before.left MOST_SCRIPT_BYTES after.left
+  pub taken : TookAtMost before.left MOST_TEXT_BYTES after.left
   pub unwritten : after.written ≡ before.written
 
 -- all was read, it is a script, and the sink failed when a front of its replay text was written
@@ -86,7 +86,7 @@ pub record SinkFailed (cfg : ReplayCfg) (before after : Devices) : Type 0 where
 
 -- it was out of memory, and nothing was written
 pub record MemoryRanOut (before after : Devices) : Type 0 where
-  pub taken : TookAtMost before.left (MOST_SCRIPT_BYTES + 1) after.left
+  pub taken : TookAtMost before.left (MOST_TEXT_BYTES + 1) after.left
   pub unwritten : after.written ≡ before.written
 
 -- how a replay with this status ended; it ends in no other way

@@ -1,16 +1,16 @@
 //! Both runs of a script, command by command.
 ghost use Rattle.std.specs.Prelude.{◌≡◌, ◌++◌, ◌∷◌, [], IfOk, OnOk};
-ghost use Rattle.line_text.specs.Script.{Commands};
-ghost use Rattle.line_text.specs.Ranges.{IsInRange, AreInRange};
+ghost use Rattle.script_text.specs.Script.{Commands};
+ghost use Rattle.script_text.specs.Ranges.{IsInRange, AreInRange};
 ghost use Rattle.replay_plain.specs.State.{ReplayState, first_state};
 ghost use Rattle.replay_run.specs.Both.{BothStand, Stands, GoesOn, RanBeside};
 
 use crate::differ::Differ;
 use crate::records::{same_entries, same_words, tell};
 use discard_book::Entry;
-use line_text::{Command, Script};
 use replay_plain::{PlainRun, ReplayCfg};
 use replay_real::RealRun;
+use script_text::{Command, Script};
 use std::alloc::Global;
 use units::NoMemory;
 

@@ -6,8 +6,6 @@ mod both;
 mod differ;
 mod records;
 mod replaying;
-#[cfg(test)]
-mod tests;
 
 pub use differ::Differ;
 pub use manager_state::State;

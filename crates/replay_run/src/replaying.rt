@@ -5,9 +5,10 @@ ghost use Rattle.replay_run.specs.Ending.{devices, Ends, Runs, IsDoneBy};
 use crate::both::{Beside, BothRuns, run_both};
 use crate::differ::Differ;
 use discard_io::{ReadEnd, Sink, Source, Status, read_to_end, write_all};
-use line_text::{Cause, MOST_SCRIPT_BYTES, ScriptFault, law_in_range, read_script};
+use line_text::{Cause, MOST_TEXT_BYTES};
 use manager_state::State;
 use replay_plain::ReplayCfg;
+use script_text::{ScriptFault, law_in_range, read_script};
 use std::alloc::Global;
 use units::NoMemory;
 
@@ -40,10 +41,10 @@ pub fn replay<S: Source, O: Sink>(
         (devices (S.left source.new) (S.faults source.new)
         (O.written sink.new) (O.faults sink.new)) }
 {
-    let bytes = match read_to_end(alloc, source, MOST_SCRIPT_BYTES) {
+    let bytes = match read_to_end(alloc, source, MOST_TEXT_BYTES) {
         Ok(bytes) => bytes,
         Err(ReadEnd::Failed) => return ended(Status::ReadFault),
-        Err(ReadEnd::TooLong) => return refused(MOST_SCRIPT_BYTES, Cause::Long.number()),
+        Err(ReadEnd::TooLong) => return refused(MOST_TEXT_BYTES, Cause::Long.number()),
         Err(ReadEnd::NoMemory) => return ended(Status::NoMemory),
     };
     let runs = match runs_of(alloc, cfg, bytes) {

@@ -8,8 +8,9 @@ use Rattle.line_text.specs.declared.cause.Cause.{Cause}
 use Rattle.line_text.specs.declared.cause.Cause.TheVariants as cause
 use Rattle.line_text.specs.Laws.{EachNumberHasOneSpelling}
 use Rattle.line_text.specs.Lines.{kept_lines}
-use Rattle.line_text.specs.Script.{◌>>=◌, Refusal, refusal, cause_number}
-use Rattle.request_text.specs.declared.limits.TheConstants.{MOST_REQUEST_BYTES, MOST_REQUESTS}
+use Rattle.line_text.specs.Refusals.{◌>>=◌, Refusal, refusal, cause_number}
+use Rattle.line_text.specs.declared.limits.TheConstants.{MOST_TEXT_BYTES}
+use Rattle.request_text.specs.declared.limits.TheConstants.{MOST_REQUESTS}
 use Rattle.request_text.specs.declared.request.Request.{Request}
 use Rattle.request_text.specs.declared.fault.RequestFault.{RequestFault}
 use Rattle.request_text.specs.Requests.{IsRequest, AreRequests, request_of, next_request, at_line, requests_after, requests_of, Answers}
@@ -162,43 +163,43 @@ spelled_read spell clients before (line ∷ lines) behind (r ∷ requests) low s
 
 -- ---- whole texts
 
-is_short : (t : Bool) (r : Result (List Request) Refusal) (all : List Request) → cond t (Err (refusal MOST_REQUEST_BYTES cause.Long)) r ≡ Ok all → (t ≡ false) × (r ≡ Ok all)
+is_short : (t : Bool) (r : Result (List Request) Refusal) (all : List Request) → cond t (Err (refusal MOST_TEXT_BYTES cause.Long)) r ≡ Ok all → (t ≡ false) × (r ≡ Ok all)
 is_short true r all e = absurd cc
 is_short false r all e = (refl, e)
 
 pub text_lawful : (clients : ℕ) (text : List ℕ) (requests : List Request) → requests_of clients text ≡ Ok requests → AreRequests clients requests
 text_lawful clients text requests e =
-    let short = is_short (ltb MOST_REQUEST_BYTES (length text)) (requests_after clients [] (kept_lines text)) requests e in
+    let short = is_short (ltb MOST_TEXT_BYTES (length text)) (requests_after clients [] (kept_lines text)) requests e in
     lines_lawful clients [] (kept_lines text) requests (none_lawful clients) short.1
 
 pub read_is_spelled : EachNumberHasOneSpelling → (clients : ℕ) (text : List ℕ) (requests : List Request) → requests_of clients text ≡ Ok requests → IsSpelled clients text requests
 read_is_spelled spell clients text requests e =
-    let short = is_short (ltb MOST_REQUEST_BYTES (length text)) (requests_after clients [] (kept_lines text)) requests e in
+    let short = is_short (ltb MOST_TEXT_BYTES (length text)) (requests_after clients [] (kept_lines text)) requests e in
     let read = lines_read spell clients [] (kept_lines text) requests short.1 in
     record {
-      short = ltb-false MOST_REQUEST_BYTES (length text) short.0;
+      short = ltb-false MOST_TEXT_BYTES (length text) short.0;
       lines = subst (Spell (kept_lines text)) (sym read.parts) read.spelled;
       lawful = text_lawful clients text requests e;
     }
 
 pub spelled_is_read : EachNumberHasOneSpelling → (clients : ℕ) (text : List ℕ) (requests : List Request) → clients < 2 ^ 32 → IsSpelled clients text requests → requests_of clients text ≡ Ok requests
 spelled_is_read spell clients text requests low s =
-    rw (le-ltb MOST_REQUEST_BYTES (length text) s.short)
+    rw (le-ltb MOST_TEXT_BYTES (length text) s.short)
     (ap (requests_after clients []) (sym (append-nil (kept_lines text)))
     ∙ spelled_read spell clients [] (kept_lines text) [] requests low s.lines s.lawful.each (omega (arith, s.lawful.few)))
 
 refusal_parts : (place number c : ℕ) (why : Cause) → ◌≡◌ {A = Refusal} (record { place = place; cause = c }) (refusal number why) → (place ≡ number) × (c ≡ cause_number why)
 refusal_parts place number c why e = (ap (λ (r : Refusal). r.place) e, ap (λ (r : Refusal). r.cause) e)
 
-refused_by_length : EachNumberHasOneSpelling → (clients : ℕ) (t : Bool) (text : List ℕ) (place c : ℕ) → ltb MOST_REQUEST_BYTES (length text) ≡ t → cond t (Err (refusal MOST_REQUEST_BYTES cause.Long)) (requests_after clients [] (kept_lines text)) ≡ Err (record { place = place; cause = c }) → IsFaulty clients text place c
+refused_by_length : EachNumberHasOneSpelling → (clients : ℕ) (t : Bool) (text : List ℕ) (place c : ℕ) → ltb MOST_TEXT_BYTES (length text) ≡ t → cond t (Err (refusal MOST_TEXT_BYTES cause.Long)) (requests_after clients [] (kept_lines text)) ≡ Err (record { place = place; cause = c }) → IsFaulty clients text place c
 refused_by_length spell clients true text place c long e =
-    let told = refusal_parts place MOST_REQUEST_BYTES c cause.Long (sym (err_same (refusal MOST_REQUEST_BYTES cause.Long) (record { place = place; cause = c }) e)) in
-    inl (ltb-true MOST_REQUEST_BYTES (length text) long, told.0, told.1)
+    let told = refusal_parts place MOST_TEXT_BYTES c cause.Long (sym (err_same (refusal MOST_TEXT_BYTES cause.Long) (record { place = place; cause = c }) e)) in
+    inl (ltb-true MOST_TEXT_BYTES (length text) long, told.0, told.1)
 refused_by_length spell clients false text place c short e =
     let s = lines_stop spell clients [] (kept_lines text) (record { place = place; cause = c }) (none_lawful clients) e in
     let told = refusal_parts place s.number c s.why s.is in
     inr (
-      ltb-false MOST_REQUEST_BYTES (length text) short,
+      ltb-false MOST_TEXT_BYTES (length text) short,
       (
         s.why,
         told.1,
@@ -216,7 +217,7 @@ refused_by_length spell clients false text place c short e =
     )
 
 pub refused_is_faulty : EachNumberHasOneSpelling → (clients : ℕ) (text : List ℕ) (place c : ℕ) → requests_of clients text ≡ Err (record { place = place; cause = c }) → IsFaulty clients text place c
-refused_is_faulty spell clients text place c e = refused_by_length spell clients (ltb MOST_REQUEST_BYTES (length text)) text place c refl e
+refused_is_faulty spell clients text place c e = refused_by_length spell clients (ltb MOST_TEXT_BYTES (length text)) text place c refl e
 
 first_refused : EachNumberHasOneSpelling → (clients : ℕ) (lines : Lines) (number : ℕ) (why : Cause) → clients < 2 ^ 32 → IsFirstRefused clients lines number why → requests_after clients [] lines ≡ Err (refusal number why)
 first_refused spell clients lines number why low s =
@@ -225,6 +226,6 @@ first_refused spell clients lines number why low s =
     ∙ (spelled_read spell clients [] s.front ((number, s.words) ∷ s.back) s.requests low s.spelled s.lawful.each (omega (arith, s.lawful.few)) ∙ stop)
 
 pub faulty_is_refused : EachNumberHasOneSpelling → (clients : ℕ) (text : List ℕ) (place c : ℕ) → clients < 2 ^ 32 → IsFaulty clients text place c → requests_of clients text ≡ Err (record { place = place; cause = c })
-faulty_is_refused spell clients text place c low (inl long) = rw (lt-ltb MOST_REQUEST_BYTES (length text) long.0, long.1, long.2) refl
+faulty_is_refused spell clients text place c low (inl long) = rw (lt-ltb MOST_TEXT_BYTES (length text) long.0, long.1, long.2) refl
 faulty_is_refused spell clients text place c low (inr short) =
-    rw (le-ltb MOST_REQUEST_BYTES (length text) short.0, short.1.1) (first_refused spell clients (kept_lines text) place short.1.0 low short.1.2)
+    rw (le-ltb MOST_TEXT_BYTES (length text) short.0, short.1.1) (first_refused spell clients (kept_lines text) place short.1.0 low short.1.2)

@@ -7,7 +7,7 @@ use Rattle.line_text.specs.declared.cause.Cause.{Cause}
 use Rattle.line_text.specs.declared.cause.Cause.TheVariants as cause
 use Rattle.line_text.specs.Laws.{EachNumberHasOneSpelling}
 use Rattle.line_text.specs.Number.{number_of, within}
-use Rattle.line_text.specs.Script.{◌>>=◌, number}
+use Rattle.line_text.specs.Refusals.{◌>>=◌, number}
 use Rattle.tile_source.specs.declared.limits.TheConstants.{MOST_ZOOM, LAST_TILE}
 use Rattle.request_text.specs.declared.limits.TheConstants.{MOST_REQUESTS}
 use Rattle.request_text.specs.declared.request.Request.{Request}

@@ -4,8 +4,8 @@ use Rattle.std.specs.Prelude.{◌≡◌, ℕ, ◌<◌, ◌≤◌, ◌⊎◌, Lis
 use Rattle.line_text.specs.declared.cause.Cause.{Cause}
 use Rattle.line_text.specs.declared.cause.Cause.TheVariants as cause
 use Rattle.line_text.specs.Lines.{kept_lines}
-use Rattle.line_text.specs.Script.{cause_number}
-use Rattle.request_text.specs.declared.limits.TheConstants.{MOST_REQUEST_BYTES}
+use Rattle.line_text.specs.Refusals.{cause_number}
+use Rattle.line_text.specs.declared.limits.TheConstants.{MOST_TEXT_BYTES}
 use Rattle.request_text.specs.declared.request.Request.{Request}
 use Rattle.request_text.specs.Requests.{AreRequests, next_request}
 
@@ -23,7 +23,7 @@ Spell lines requests = map (λ line. line.1) lines ≡ map spelling requests
 
 -- the text is short, its lines are these requests, and they are requests of so many clients
 pub record IsSpelled (clients : ℕ) (text : List ℕ) (requests : List Request) : Type 0 where
-  pub short : length text ≤ MOST_REQUEST_BYTES
+  pub short : length text ≤ MOST_TEXT_BYTES
   pub lines : Spell (kept_lines text) requests
   pub lawful : AreRequests clients requests
 
@@ -42,10 +42,10 @@ pub record IsFirstRefused (clients : ℕ) (lines : Lines) (number : ℕ) (why : 
 -- the text is too long, or it has a first line that is refused
 abbrev pub IsFaulty : ℕ → List ℕ → ℕ → ℕ → Type 0
 IsFaulty clients text place told =
-    ((MOST_REQUEST_BYTES < length text)
-    × (place ≡ MOST_REQUEST_BYTES)
+    ((MOST_TEXT_BYTES < length text)
+    × (place ≡ MOST_TEXT_BYTES)
     × (told ≡ cause_number cause.Long))
-    ⊎ ((length text ≤ MOST_REQUEST_BYTES)
+    ⊎ ((length text ≤ MOST_TEXT_BYTES)
     × ((why : Cause)
     × (told ≡ cause_number why)
     × IsFirstRefused clients (kept_lines text) place why))

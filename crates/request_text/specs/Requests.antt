@@ -4,10 +4,11 @@ use Rattle.std.specs.List.{All}
 use Rattle.line_text.specs.declared.cause.Cause.{Cause}
 use Rattle.line_text.specs.declared.cause.Cause.TheVariants as cause
 use Rattle.line_text.specs.Lines.{kept_lines}
-use Rattle.line_text.specs.Script.{◌>>=◌, number, Refusal, refusal}
+use Rattle.line_text.specs.Refusals.{◌>>=◌, number, Refusal, refusal}
 use Rattle.tile_source.specs.declared.limits.TheConstants.{MOST_ZOOM, LAST_TILE}
 use Rattle.tile_source.specs.Tile.{IsTile}
-use Rattle.request_text.specs.declared.limits.TheConstants.{MOST_REQUEST_BYTES, MOST_REQUESTS}
+use Rattle.line_text.specs.declared.limits.TheConstants.{MOST_TEXT_BYTES}
+use Rattle.request_text.specs.declared.limits.TheConstants.{MOST_REQUESTS}
 use Rattle.request_text.specs.declared.request.Request.{Request}
 use Rattle.request_text.specs.declared.fault.RequestFault.{RequestFault}
 use Rattle.request_text.specs.declared.fault.RequestFault.TheVariants.{Bad, NoMemory}
@@ -54,7 +55,7 @@ requests_after clients before (line ∷ lines) = do
 -- what a text is as a request file: its requests, or the first place where it is refused
 abbrev pub requests_of : ℕ → List ℕ → Result (List Request) Refusal
 requests_of clients text =
-    if nat_lt MOST_REQUEST_BYTES (length text) then Err (refusal MOST_REQUEST_BYTES cause.Long)
+    if nat_lt MOST_TEXT_BYTES (length text) then Err (refusal MOST_TEXT_BYTES cause.Long)
     else requests_after clients [] (kept_lines text)
 
 -- a refusal as a fault

@@ -1,5 +1,5 @@
 ghost use Rattle.std.specs.Prelude.{◌≡◌};
-ghost use Rattle.line_text.specs.Script.{refusal};
+ghost use Rattle.line_text.specs.Refusals.{refusal};
 ghost use Rattle.request_text.specs.Requests.{fault_of};
 ghost use Rattle.request_text.specs.declared.fault.RequestFault.TheVariants as fault;
 

@@ -1,7 +1,7 @@
-//! How much a request file has at most.
-
-/// How many bytes a request file has at most: 1 MiB.
-pub const MOST_REQUEST_BYTES: u64 = 1_048_576;
+//! How much a request file has at most. How many bytes it has at most stands in `line_text`.
 
 /// How many requests a request file has at most.
 pub const MOST_REQUESTS: u64 = 4096;
+
+// A definition that cites a constant would follow a wrong one, so each is held to its number.
+const _: () = prove!(MOST_REQUESTS == 4096);

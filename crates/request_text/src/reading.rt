@@ -1,12 +1,12 @@
 ghost use Rattle.std.specs.Prelude.{◌≡◌, ◌≢◌, ◌≤◌, ◌<◌, ◌+◌, [], ◌∷◌, length, drop, slice_get, IfOk, IfErr, IfSome, MatchOption, Some};
 ghost use Rattle.line_text.specs.declared.cause.Cause.TheVariants.{Count};
-ghost use Rattle.line_text.specs.Script.{number};
+ghost use Rattle.line_text.specs.Refusals.{number};
 ghost use Rattle.request_text.specs.Requests.{request_of, next_request, requests_after, Answers, Reads, AreRequests};
 
 use crate::fault::{RequestFault, refused};
-use crate::limits::{MOST_REQUEST_BYTES, MOST_REQUESTS};
+use crate::limits::MOST_REQUESTS;
 use crate::request::{Request, Requests};
-use line_text::{Cause, Cut, Line, cut, read_number};
+use line_text::{Cause, Cut, Line, MOST_TEXT_BYTES, cut, read_number};
 use std::alloc::Global;
 use tile_source::{LAST_TILE, MOST_ZOOM, Tile};
 
@@ -20,8 +20,8 @@ pub fn read_requests(alloc: Global, clients: u32, bytes: &[u8]) -> Result<Reques
     ensures reads { Reads result clients bytes.now }
     ensures requests { IfOk result (λ requests. AreRequests clients requests) }
 {
-    if bytes.len() as u64 > MOST_REQUEST_BYTES {
-        return Err(refused(MOST_REQUEST_BYTES, Cause::Long));
+    if bytes.len() as u64 > MOST_TEXT_BYTES {
+        return Err(refused(MOST_TEXT_BYTES, Cause::Long));
     }
     let lines = cut(alloc, bytes)?;
     read_lines(alloc, clients, &lines)

@@ -4,7 +4,7 @@ use std::marker::Model;
 use tile_source::Tile;
 
 /// What a client asks for: a tile.
-#[derive(Clone, Copy, Debug, PartialEq, Eq, Hash)]
+#[derive(Clone, Copy, PartialEq, Eq)]
 pub struct Request {
     /// The client. Clients are numbered from 1.
     pub client: u32,
@@ -13,7 +13,7 @@ pub struct Request {
 }
 
 /// Requests in their order, seen by contracts as the list of them.
-#[derive(Debug, Drop)]
+#[derive(Drop)]
 pub struct Requests {
     requests: Vec<Request>,
 }

@@ -1,4 +1,5 @@
 use super::*;
+use line_text::MOST_TEXT_BYTES;
 use std::alloc::{AllocError, Global};
 use std::test::Fail;
 use tile_source::Tile;
@@ -30,8 +31,8 @@ fn refused_files(rt: HostRuntime) -> Result<(), Fail> {
     assert!(rt; is_refused(rt.alloc(), b"1 0 0 65536", 1, 3));
     let many = repeated(rt.alloc(), b"1 0 0 0\n", 4097)?;
     assert!(rt; is_refused(rt.alloc(), &many, 4097, 5));
-    let long = repeated(rt.alloc(), b" ", MOST_REQUEST_BYTES + 1)?;
-    assert!(rt; is_refused(rt.alloc(), &long, MOST_REQUEST_BYTES, 6));
+    let long = repeated(rt.alloc(), b" ", MOST_TEXT_BYTES + 1)?;
+    assert!(rt; is_refused(rt.alloc(), &long, MOST_TEXT_BYTES, 6));
     Ok(())
 }
 

@@ -4,15 +4,15 @@ use crate::{Note, Returns};
 use std::sync::Wait;
 
 /// The queue that keeps no note: its capacity is 0, so each note that is given comes back.
-#[derive(Debug, Drop)]
+#[derive(Drop)]
 pub struct PlainReturns;
 
 /// A pass of the queue that keeps no note.
-#[derive(Clone, Copy, Debug)]
+#[derive(Clone, Copy)]
 pub struct PlainPass;
 
 /// The taker of the queue that keeps no note.
-#[derive(Debug, Drop)]
+#[derive(Drop)]
 pub struct PlainTaker;
 
 impl PlainReturns {

@@ -40,6 +40,7 @@ fn open<C: Capacity>(line: &Line, first: &mut Pass<Note, View>, capacity: u32) -
     ensures taker { IsPassOf line.now first.new × (view first.new ≡ new_taker capacity) }
     ensures pass { IsPassOf line.now result × (view result ≡ new_pass capacity) }
 {
+    // The contract alone reads it.
     let _ = capacity;
     line.another::<Opens<C>>(first)
 }

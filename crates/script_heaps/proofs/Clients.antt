@@ -8,7 +8,7 @@ use Rattle.span_heap.specs.declared.run.Run.{Run}
 use Rattle.span_heap.specs.Runs.{front_of}
 use Rattle.span_heap.specs.Changes.{whole_of}
 use Rattle.script_heaps.specs.declared.heaps.ScriptHeaps.{ScriptHeaps}
-use Rattle.script_heaps.specs.declared.heaps.Taker.{Taker}
+use Rattle.script_heaps.specs.declared.heaps.PieceOwner.{PieceOwner}
 use Rattle.script_heaps.specs.Holding.{Holding, nothing, lost_all, without_all, adopted, with_piece}
 use Rattle.script_heaps.specs.Heaps.{Heaps, with_client, with_next, with_owned}
 use Rattle.script_heaps.specs.Showing.{Shows, IsMarked, kept_at}
@@ -42,21 +42,21 @@ clients_changed old new heaps client is updates were c =
 
 pub shows_changed : (old new : ScriptHeaps) (heaps : Heaps) (client : ℕ) (is : Holding)
     → ((q : ℕ) → found_at new.clients.entries q ≡ cond (is_at (nat_cmp client) q) (Some is) (found_at old.clients.entries q))
-    → new.takers.items ≡ old.takers.items → new.owned.items ≡ old.owned.items → Shows old heaps → Shows new (with_client heaps client is)
-shows_changed old new heaps client is updates takers owned shows =
+    → new.owners.items ≡ old.owners.items → new.owned.items ≡ old.owned.items → Shows old heaps → Shows new (with_client heaps client is)
+shows_changed old new heaps client is updates owners owned shows =
     record {
       clients = clients_changed old.clients.entries new.clients.entries heaps client is updates shows.clients;
-      takers = takers ∙ shows.takers;
+      owners = owners ∙ shows.owners;
       owned = λ id. ap (λ (flags : List Bool). get_or flags id false) owned ∙ shows.owned id;
     }
 
 -- a client that has nothing has nothing
 pub shows_same : (old new : ScriptHeaps) (heaps : Heaps) (client : ℕ) (is : Holding) → is ≡ nothing → None ≡ found_at old.clients.entries client
-    → new.clients.entries ≡ old.clients.entries → new.takers.items ≡ old.takers.items → new.owned.items ≡ old.owned.items → Shows old heaps → Shows new (with_client heaps client is)
-shows_same old new heaps client is none found entries takers owned shows =
+    → new.clients.entries ≡ old.clients.entries → new.owners.items ≡ old.owners.items → new.owned.items ≡ old.owned.items → Shows old heaps → Shows new (with_client heaps client is)
+shows_same old new heaps client is none found entries owners owned shows =
     record {
       clients = λ c. ap (λ (cs : List (ℕ × Holding)). kept_at cs c) entries ∙ by_test (client == c) c refl;
-      takers = takers ∙ shows.takers;
+      owners = owners ∙ shows.owners;
       owned = λ id. ap (λ (flags : List Bool). get_or flags id false) owned ∙ shows.owned id;
     }
   where
@@ -65,11 +65,11 @@ shows_same old new heaps client is none found entries takers owned shows =
     by_test false c test = shows.clients c
 
 -- nothing changed
-pub shows_kept : (old new : ScriptHeaps) (heaps : Heaps) → new.clients.entries ≡ old.clients.entries → new.takers.items ≡ old.takers.items → new.owned.items ≡ old.owned.items → Shows old heaps → Shows new heaps
-shows_kept old new heaps entries takers owned shows =
+pub shows_kept : (old new : ScriptHeaps) (heaps : Heaps) → new.clients.entries ≡ old.clients.entries → new.owners.items ≡ old.owners.items → new.owned.items ≡ old.owned.items → Shows old heaps → Shows new heaps
+shows_kept old new heaps entries owners owned shows =
     record {
       clients = λ c. ap (λ (cs : List (ℕ × Holding)). kept_at cs c) entries ∙ shows.clients c;
-      takers = takers ∙ shows.takers;
+      owners = owners ∙ shows.owners;
       owned = λ id. ap (λ (flags : List Bool). get_or flags id false) owned ∙ shows.owned id;
     }
 
@@ -83,18 +83,18 @@ nothing_left [] = refl
 nothing_left (id ∷ ids) = nothing_left ids
 
 -- a segment came to a client, with the next piece
-pub shows_adopted : (mid new : ScriptHeaps) (heaps : Heaps) (client id whole pages place : ℕ) → new.clients.entries ≡ mid.clients.entries → new.takers.items ≡ mid.takers.items ++ record { client = client; place = place } ∷ []
+pub shows_adopted : (mid new : ScriptHeaps) (heaps : Heaps) (client id whole pages place : ℕ) → new.clients.entries ≡ mid.clients.entries → new.owners.items ≡ mid.owners.items ++ record { client = client; place = place } ∷ []
     → IsMarked mid.owned.items new.owned.items id → place ≡ length (heaps.clients client).pieces
     → Shows mid (with_client heaps client (with_piece (adopted (heaps.clients client) id whole pages) (front_of (whole_of id whole) pages)))
     → Shows new (with_next (with_owned (with_client heaps client (adopted (heaps.clients client) id whole pages)) id) client (front_of (whole_of id whole) pages))
-shows_adopted mid new heaps client id whole pages place entries takers marked placed shows =
+shows_adopted mid new heaps client id whole pages place entries owners marked placed shows =
     let same : (client == client) ≡ true = eq-eqb client client refl in
     let now : Holding = adopted (heaps.clients client) id whole pages in
     record {
       clients = λ c. ap (λ (cs : List (ℕ × Holding)). kept_at cs c) entries ∙ (shows.clients c ∙ by_test (client == c) (heaps.clients c) now (front_of (whole_of id whole) pages) same);
-      takers = takers
-          ∙ (ap (λ (xs : List Taker). xs ++ record { client = client; place = place } ∷ []) shows.takers
-          ∙ ap (λ (n : ℕ). heaps.takers ++ record { client = client; place = n } ∷ []) (placed ∙ sym (ap (λ (t : Bool). length (cond t now (heaps.clients client)).pieces) same)));
+      owners = owners
+          ∙ (ap (λ (xs : List PieceOwner). xs ++ record { client = client; place = place } ∷ []) shows.owners
+          ∙ ap (λ (n : ℕ). heaps.owners ++ record { client = client; place = n } ∷ []) (placed ∙ sym (ap (λ (t : Bool). length (cond t now (heaps.clients client)).pieces) same)));
       owned = λ other. marked other ∙ ap (λ (b : Bool). id == other || b) (shows.owned other);
     }
   where

@@ -1,5 +1,5 @@
 -- What holds of a client's heap holds after each call.
-use Rattle.std.proofs.Common.{◌≡◌, ◌≢◌, ℕ, ◌+◌, ◌<◌, ◌≤◌, ◌==◌, Bool, true, false, not, cond, List, [], ◌∷◌, ◌++◌, get_or, set, map, Option, Some, None, refl, sym, ap, subst, ◌∙◌, inl, inr, arith}
+use Rattle.std.proofs.Common.{◌≡◌, ◌≢◌, ℕ, zero, suc, ◌+◌, ◌<◌, ◌≤◌, ◌==◌, Bool, true, false, not, cond, List, [], ◌∷◌, ◌++◌, get_or, set, map, Option, Some, None, refl, sym, ap, subst, ◌∙◌, inl, inr, arith}
 use Rattle.std.specs.List.{All, filter, list_any, count_by, Contains}
 use Rattle.std.specs.List.Sorted.{IsPermutation}
 use Rattle.std.proofs.lemmas.Bool.{eq-eqb, ne_eqb}
@@ -15,12 +15,19 @@ use Rattle.span_heap.specs.Run.{lies_in, has_page}
 use Rattle.span_heap.specs.Runs.{dropped}
 use Rattle.span_heap.specs.Segment.{Segment}
 use Rattle.span_heap.specs.Heap.{Contents, contents, IsPartition, LiesWithin, has_id, has_segment, holds_page}
-use Rattle.span_heap.specs.Changes.{Uses, Frees, Drops, segment_of}
-use Rattle.script_heaps.specs.Kept.{IsKept, IsPiece, IsSmall}
-use Rattle.script_heaps.specs.Changes.{GrowsFront}
+use Rattle.span_heap.specs.Changes.{GrowsFront, Uses, Frees, Drops, segment_of}
+use Rattle.script_heaps.specs.Sound.{IsSoundClientHeap, IsPiece, IsSmall}
 use Rattle.script_heaps.proofs.PiecesAtPlaces.{piece_pushed, piece_set}
 use Rattle.script_heaps.proofs.SegmentsByNumber.{has_left, has_grown, numbers_left}
-use Rattle.script_heaps.proofs.FrontGrows.{Contains-cons, Contains-rest}
+
+-- ---- what a list contains
+
+pub Contains-cons : {X : Type 0} (xs : List X) (y x : X) → Contains xs x → Contains (y ∷ xs) x
+Contains-cons xs y x there = (suc there.0, omega (arith, there.1), there.2)
+
+pub Contains-rest : {X : Type 0} (xs : List X) (y x : X) → Contains (y ∷ xs) x → x ≢ y → Contains xs x
+Contains-rest xs y x (zero, within, is) other = absurd (other (sym is))
+Contains-rest xs y x (suc k, within, is) other = (k, omega (arith, within), is)
 
 -- ---- pages of used spans
 
@@ -77,7 +84,7 @@ contains_left runs id run there other = All-contains (Stays id runs) runs run (a
 -- ---- the calls
 
 -- a client that has nothing
-pub kept_empty : (last : ℕ) (pieces : List (Option Run)) → ((place : ℕ) (run : Run) → IsPiece pieces place run → ⊥) → IsKept (contents [] [] []) [] pieces last
+pub kept_empty : (last : ℕ) (pieces : List (Option Run)) → ((place : ℕ) (run : Run) → IsPiece pieces place run → ⊥) → IsSoundClientHeap (contents [] [] []) [] pieces last
 kept_empty last pieces none =
     record {
       partition = record {
@@ -95,7 +102,7 @@ kept_empty last pieces none =
     }
 
 -- fewer pieces are there
-pub kept_fewer : (heap : Contents) (ids : List ℕ) (pieces fewer : List (Option Run)) (last : ℕ) → IsKept heap ids pieces last → ((place : ℕ) (run : Run) → IsPiece fewer place run → IsPiece pieces place run) → IsKept heap ids fewer last
+pub kept_fewer : (heap : Contents) (ids : List ℕ) (pieces fewer : List (Option Run)) (last : ℕ) → IsSoundClientHeap heap ids pieces last → ((place : ℕ) (run : Run) → IsPiece fewer place run → IsPiece pieces place run) → IsSoundClientHeap heap ids fewer last
 kept_fewer heap ids pieces fewer last kept were =
     record {
       partition = kept.partition;
@@ -107,7 +114,7 @@ kept_fewer heap ids pieces fewer last kept were =
     }
 
 -- a search found a span, which is a piece
-pub kept_searched : (heap new : Contents) (ids : List ℕ) (pieces : List (Option Run)) (last : ℕ) (span : Run) → IsKept heap ids pieces last → Uses heap new span → IsPartition new → IsKept new ids (pieces ++ Some span ∷ []) last
+pub kept_searched : (heap new : Contents) (ids : List ℕ) (pieces : List (Option Run)) (last : ℕ) (span : Run) → IsSoundClientHeap heap ids pieces last → Uses heap new span → IsPartition new → IsSoundClientHeap new ids (pieces ++ Some span ∷ []) last
 kept_searched heap new ids pieces last span kept uses partition =
     let small : All (IsSmall last) new.segments = rw uses.segments kept.small in
     let lies = All-contains (LiesWithin new.segments) new.used span partition.used_within uses.has in
@@ -138,7 +145,7 @@ kept_searched heap new ids pieces last span kept uses partition =
     }
 
 -- a segment left
-pub kept_left : (heap new : Contents) (ids fewer : List ℕ) (pieces : List (Option Run)) (last id : ℕ) → IsKept heap ids pieces last → Drops heap new id → IsPartition new → fewer ≡ filter (λ n. not (n == id)) ids → IsKept new fewer pieces last
+pub kept_left : (heap new : Contents) (ids fewer : List ℕ) (pieces : List (Option Run)) (last id : ℕ) → IsSoundClientHeap heap ids pieces last → Drops heap new id → IsPartition new → fewer ≡ filter (λ n. not (n == id)) ids → IsSoundClientHeap new fewer pieces last
 kept_left heap new ids fewer pieces last id kept drops partition fewer_is =
     let left : (run : Run) → has_segment new.segments run.segment ≡ true → (has_segment heap.segments run.segment ≡ true) × (run.segment ≢ id) =
     λ run is. has_left heap.segments id run.segment (subst (λ (ss : List Segment). has_segment ss run.segment ≡ true) drops.segments is) in
@@ -154,7 +161,7 @@ kept_left heap new ids fewer pieces last id kept drops partition fewer_is =
     }
 
 -- a piece was freed
-pub kept_freed : (heap new : Contents) (ids : List ℕ) (pieces : List (Option Run)) (last place : ℕ) (span : Run) → IsKept heap ids pieces last → IsPiece pieces place span → Frees heap new span → IsPartition new → IsKept new ids (set pieces place None) last
+pub kept_freed : (heap new : Contents) (ids : List ℕ) (pieces : List (Option Run)) (last place : ℕ) (span : Run) → IsSoundClientHeap heap ids pieces last → IsPiece pieces place span → Frees heap new span → IsPartition new → IsSoundClientHeap new ids (set pieces place None) last
 kept_freed heap new ids pieces last place span kept here frees partition =
     let was : (run : Run) → has_segment new.segments run.segment ≡ true → has_segment heap.segments run.segment ≡ true = λ run is. subst (λ (ss : List Segment). has_segment ss run.segment ≡ true) frees.segments is in
     record {
@@ -170,8 +177,8 @@ kept_freed heap new ids pieces last place span kept here frees partition =
     }
 
 -- a segment came, with a piece
-pub kept_adopted : (heap new : Contents) (ids : List ℕ) (pieces : List (Option Run)) (last id whole pages : ℕ) (span : Run) → IsKept heap ids pieces last → last < id → whole ≤ MOST_PAGES → GrowsFront heap new id whole pages span → IsPartition new
-    → IsKept new (ids ++ id ∷ []) (pieces ++ Some span ∷ []) id
+pub kept_adopted : (heap new : Contents) (ids : List ℕ) (pieces : List (Option Run)) (last id whole pages : ℕ) (span : Run) → IsSoundClientHeap heap ids pieces last → last < id → whole ≤ MOST_PAGES → GrowsFront heap new id whole pages span → IsPartition new
+    → IsSoundClientHeap new (ids ++ id ∷ []) (pieces ++ Some span ∷ []) id
 kept_adopted heap new ids pieces last id whole pages span kept past sized grows partition =
     let at : span.segment ≡ id = ap (λ (r : Run). r.segment) grows.front in
     let older : (place : ℕ) (run : Run) → IsPiece pieces place run → run.segment ≢ id = λ place run is same. let low = kept.drawn place run is in absurd (omega (arith, same, low, past)) in
@@ -188,7 +195,7 @@ kept_adopted heap new ids pieces last id whole pages span kept past sized grows 
       ];
       used = λ place run is has. elim (piece_pushed pieces (Some span) place run is) [
         | inl old ↦ grows.keeps run (kept.used place run old (was place run old has)) (older place run old)
-        | inr came ↦ subst (Contains new.used) (same_Some span run came.1) grows.there
+        | inr came ↦ subst (Contains new.used) (same_Some span run came.1) grows.has
       ];
       once = λ place other run is too has. elim (piece_pushed pieces (Some span) place run is) [
         | inl one ↦ elim (piece_pushed pieces (Some span) other run too) [

@@ -1,6 +1,5 @@
 pub mod PiecesAtPlaces
 pub mod SegmentsByNumber
-pub mod FrontGrows
 pub mod KeptThrough
 pub mod Losing
 pub mod AllFree

@@ -11,7 +11,7 @@ use Rattle.span_heap.specs.Runs.{front_of, back_of, rest_of, carved, dropped}
 use Rattle.span_heap.specs.Segment.{Segment}
 use Rattle.span_heap.specs.Heap.{Contents, has_id, has_segment}
 use Rattle.script_heaps.specs.Holding.{Holding, has, lost, taken, with_piece}
-use Rattle.script_heaps.specs.Kept.{seen_of}
+use Rattle.script_heaps.specs.Sound.{seen_of}
 use Rattle.script_heaps.proofs.PiecesAtPlaces.{last_same}
 
 step : (a b : Bool) (r : Run) (rest : List Run) (id : ℕ) (left : List Run) → lies_in id r ≡ a → dropped rest id ≡ left → dropped (cond (not (a && b)) (r ∷ rest) rest) id ≡ cond (not a) (r ∷ left) left

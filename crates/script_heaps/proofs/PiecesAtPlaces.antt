@@ -4,7 +4,7 @@ use Rattle.std.proofs.Math.Numerals.{add-one}
 use Rattle.std.proofs.lemmas.List.{length-append}
 use Rattle.std.proofs.lemmas.Option.{none-some}
 use Rattle.span_heap.specs.declared.run.Run.{Run}
-use Rattle.script_heaps.specs.Kept.{IsPiece}
+use Rattle.script_heaps.specs.Sound.{IsPiece}
 
 -- a piece where one more came was there, or is the one that came
 pub piece_pushed : (pieces : List (Option Run)) (more : Option Run) (place : ℕ) (run : Run) → IsPiece (pieces ++ more ∷ []) place run → IsPiece pieces place run ⊎ ((place ≡ length pieces) × (more ≡ Some run))

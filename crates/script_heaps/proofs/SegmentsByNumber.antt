@@ -11,7 +11,7 @@ use Rattle.units.specs.declared.TheConstants.{MOST_PAGES}
 use Rattle.span_heap.specs.Segment.{Segment}
 use Rattle.span_heap.specs.Heap.{has_id, has_segment, size_of}
 use Rattle.span_heap.specs.Changes.{segment_of}
-use Rattle.script_heaps.specs.Kept.{IsSmall}
+use Rattle.script_heaps.specs.Sound.{IsSmall}
 
 pub cases_same : (m n : ℕ) → (m ≡ n) ⊎ (m ≢ n)
 cases_same m n = elim (cases_Bool (m == n)) [

@@ -1,20 +1,9 @@
 -- What the calls of a client's heap change.
-use Rattle.std.specs.Prelude.{◌≡◌, ◌≢◌, ℕ, ◌++◌, Bool, length, [], ◌∷◌, Contains, Option, Some, None, MatchOption}
+use Rattle.std.specs.Prelude.{◌≡◌, ℕ, Bool, length, Option, Some, None, MatchOption}
 use Rattle.span_heap.specs.declared.run.Run.{Run}
-use Rattle.span_heap.specs.Heap.{Contents}
-use Rattle.span_heap.specs.Runs.{front_of, rest_of}
+use Rattle.span_heap.specs.Runs.{front_of}
 use Rattle.span_heap.specs.Pick.{pick}
-use Rattle.span_heap.specs.Changes.{whole_of, segment_of}
 use Rattle.script_heaps.specs.Holding.{Holding, has, piece_at, taken, with_piece, after_free}
-
--- A segment came last. Its first pages are a used span, the rest, if there is any, is the latest free
--- run, and the used spans of other segments stay.
-pub record GrowsFront (old new : Contents) (id whole pages : ℕ) (span : Run) : Type 0 where
-  pub front : span ≡ front_of (whole_of id whole) pages
-  pub segments : new.segments ≡ old.segments ++ segment_of id whole ∷ []
-  pub there : Contains new.used span
-  pub keeps : (run : Run) → Contains old.used run → run.segment ≢ id → Contains new.used run
-  pub free : new.free ≡ old.free ++ rest_of (whole_of id whole) pages
 
 -- A search for n pages picked no run, and nothing changed; or the first n pages of the run that it
 -- picked are those of a piece, which came last, and whose place is told.

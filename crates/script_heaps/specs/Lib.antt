@@ -1,5 +1,5 @@
 pub mod Holding
 pub mod Heaps
-pub mod Kept
+pub mod Sound
 pub mod Changes
 pub mod Showing

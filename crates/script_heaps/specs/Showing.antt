@@ -8,16 +8,16 @@ use Rattle.span_heap.specs.Runs.{front_of}
 use Rattle.span_heap.specs.Pick.{pick}
 use Rattle.script_heaps.specs.declared.heaps.ScriptHeaps.{ScriptHeaps}
 use Rattle.script_heaps.specs.Holding.{Holding, nothing, has, taken, after_free}
-use Rattle.script_heaps.specs.Heaps.{Heaps, with_client, with_next, taker_of, piece_of}
+use Rattle.script_heaps.specs.Heaps.{Heaps, with_client, with_next, owner_of, piece_of}
 
 -- what is kept of a client, or nothing
 abbrev pub kept_at : List (ℕ × Holding) → ℕ → Holding
 kept_at clients client = unwrap_or (lookup (is_at (nat_cmp client)) clients) nothing
 
--- what is kept is what each client has, for whom the pieces came, and which segments came to a heap
+-- what is kept is what each client has, who owns the pieces, and which segments came to a heap
 pub record Shows (kept : ScriptHeaps) (heaps : Heaps) : Type 0 where
   pub clients : (client : ℕ) → kept_at kept.clients.entries client ≡ heaps.clients client
-  pub takers : kept.takers.items ≡ heaps.takers
+  pub owners : kept.owners.items ≡ heaps.owners
   pub owned : (id : ℕ) → slice_index_or kept.owned.items id false ≡ heaps.owned id
 
 -- A search for n pages of a client picked no run, and nothing changed; or the first n pages of the run
@@ -33,12 +33,12 @@ FindsNext new heaps client n slack found =
 -- is whether its segment is among the client's.
 abbrev pub FreesNumbered : ScriptHeaps → Heaps → ℕ → Option Bool → Type 0
 FreesNumbered new heaps number there =
-    let taker = taker_of heaps number in
-    let holding = heaps.clients taker.client in
+    let owner = owner_of heaps number in
+    let holding = heaps.clients owner.client in
     MatchOption (piece_of heaps number)
     ((there ≡ None) × Shows new heaps)
     (λ run. (there ≡ Some (has holding run.segment))
-    × Shows new (with_client heaps taker.client (after_free holding taker.place run)))
+    × Shows new (with_client heaps owner.client (after_free holding owner.place run)))
 
 -- the flag of a number is set, and the others stay
 abbrev pub IsMarked : List Bool → List Bool → ℕ → Type 0

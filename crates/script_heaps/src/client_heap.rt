@@ -8,7 +8,6 @@ ghost use Rattle.span_heap.specs.Changes.{whole_of};
 ghost use Rattle.script_heaps.specs.Holding.{Holding, nothing, has, numbers, without, without_all, lost, lost_all, told, taken, adopted, piece_at, with_piece, emptied, all_free};
 ghost use Rattle.script_heaps.specs.Changes.{Searches, FreesPiece};
 
-use crate::coming::grow_front;
 use span_heap::{Heap, Run, Runs, Span};
 use std::alloc::Global;
 use std::marker::Model;
@@ -34,13 +33,13 @@ pub(crate) struct ClientHeap {
 
 impl Model for ClientHeap {
     ghost use Rattle.script_heaps.specs.Holding.{Holding};
-    ghost use Rattle.script_heaps.specs.Kept.{seen_of, IsKept};
+    ghost use Rattle.script_heaps.specs.Sound.{seen_of, IsSoundClientHeap};
 
     ghost Value = { Holding };
 
     ghost view = { λ c. seen_of c.heap c.untold.items c.pieces.items };
 
-    ghost invariant = { λ c. IsKept c.heap c.segments.items c.pieces.items c.last };
+    ghost invariant = { λ c. IsSoundClientHeap c.heap c.segments.items c.pieces.items c.last };
 }
 
 impl ClientHeap {
@@ -171,7 +170,7 @@ impl ClientHeap {
         }
         self.segments.reserve(1)?;
         self.pieces.reserve(1)?;
-        let span = grow_front(&mut self.heap, alloc, id, whole, pages)?;
+        let span = self.heap.grow_front(alloc, id, whole, pages)?;
         self.segments.push_reserved(id);
         let place = self.pieces.len() as u64;
         self.pieces.push_reserved(Some(span));

@@ -6,7 +6,7 @@ ghost use Rattle.span_heap.specs.Run.{pages_of};
 ghost use Rattle.span_heap.specs.Runs.{front_of};
 ghost use Rattle.span_heap.specs.Changes.{whole_of};
 ghost use Rattle.script_heaps.specs.Holding.{has, numbers, without_all, lost, lost_all, told, taken, adopted, with_piece, emptied, all_free};
-ghost use Rattle.script_heaps.specs.Heaps.{Heaps, no_heaps, with_client, next_piece, taker_of, piece_of, with_next, with_owned};
+ghost use Rattle.script_heaps.specs.Heaps.{Heaps, no_heaps, with_client, next_piece, owner_of, piece_of, with_next, with_owned};
 ghost use Rattle.script_heaps.specs.Showing.{Shows, FindsNext, FreesNumbered, IsMarked};
 
 use crate::client_heap::ClientHeap;
@@ -15,9 +15,9 @@ use std::alloc::Global;
 use std::collections::BTreeMap;
 use units::NoMemory;
 
-/// For whom a piece came.
-#[derive(Clone, Copy, Debug)]
-pub struct Taker {
+/// The client that owns a piece, and where the piece stands there.
+#[derive(Clone, Copy)]
+pub struct PieceOwner {
     /// The client, or 0 for nobody.
     pub client: u64,
     /// The place of the piece among all pieces of the client, counted from 0.
@@ -33,7 +33,7 @@ pub struct Taker {
 pub struct ScriptHeaps {
     clients: BTreeMap<u64, ClientHeap>,
     /// By the number of the piece. The number 0 is never drawn.
-    takers: Vec<Taker>,
+    owners: Vec<PieceOwner>,
     /// By the number of the segment.
     owned: Vec<bool>,
 }
@@ -43,14 +43,14 @@ impl ScriptHeaps {
     pub fn new(alloc: Global) -> Result<ScriptHeaps, NoMemory>
         ensures { IfOk result (λ kept. Shows kept no_heaps) }
     {
-        let mut takers = Vec::new(alloc);
-        takers.push(Taker {
+        let mut owners = Vec::new(alloc);
+        owners.push(PieceOwner {
             client: 0,
             place: 0,
         })?;
         Ok(ScriptHeaps {
             clients: BTreeMap::new(alloc),
-            takers,
+            owners,
             owned: Vec::new(alloc),
         })
     }
@@ -69,34 +69,34 @@ impl ScriptHeaps {
     pub fn last_piece(&self) -> u64
         ensures { (heaps : Heaps) → Shows self.now heaps → result ≡ next_piece heaps - 1 }
     {
-        (self.takers.len() as u64).saturating_sub(1)
+        (self.owners.len() as u64).saturating_sub(1)
     }
 
     /// The client that a piece came for, or 0.
     pub fn client_of(&self, number: u64) -> u64
-        ensures { (heaps : Heaps) → Shows self.now heaps → result ≡ (taker_of heaps number).client }
+        ensures { (heaps : Heaps) → Shows self.now heaps → result ≡ (owner_of heaps number).client }
     {
-        self.taker(number).client
+        self.owner(number).client
     }
 
     /// The pages of a piece, if it is there.
     pub fn piece(&self, number: u64) -> Option<Run>
         ensures { (heaps : Heaps) → Shows self.now heaps → result ≡ piece_of heaps number }
     {
-        let taker = self.taker(number);
-        match self.clients.get(&taker.client) {
-            Some(heap) => heap.piece(taker.place),
+        let owner = self.owner(number);
+        match self.clients.get(&owner.client) {
+            Some(heap) => heap.piece(owner.place),
             None => None,
         }
     }
 
-    /// For whom a piece came.
-    fn taker(&self, number: u64) -> Taker
-        ensures { (heaps : Heaps) → Shows self.now heaps → result ≡ taker_of heaps number }
+    /// The owner of a piece.
+    fn owner(&self, number: u64) -> PieceOwner
+        ensures { (heaps : Heaps) → Shows self.now heaps → result ≡ owner_of heaps number }
     {
-        match self.takers.get(number as usize) {
-            Some(taker) => *taker,
-            None => Taker {
+        match self.owners.get(number as usize) {
+            Some(owner) => *owner,
+            None => PieceOwner {
                 client: 0,
                 place: 0,
             },
@@ -130,7 +130,7 @@ impl ScriptHeaps {
         let Some((place, run)) = heap.search(pages, slack)? else {
             return Ok(None);
         };
-        self.takers.push(Taker { client, place })?;
+        self.owners.push(PieceOwner { client, place })?;
         Ok(Some(run))
     }
 
@@ -144,7 +144,7 @@ impl ScriptHeaps {
             → Shows self.new
             (with_client before client (lost (before.clients client) run.segment))) }
     {
-        let _ = self.takers.pop();
+        let _ = self.owners.pop();
         match self.clients.get_mut(&client) {
             Some(heap) => heap.lose_last(),
             None => Ok(()),
@@ -229,7 +229,7 @@ impl ScriptHeaps {
             (front_of (whole_of id whole) pages))) }
     {
         let place = self.adopt_first(alloc, client, id, whole, pages)?;
-        self.takers.push(Taker { client, place })?;
+        self.owners.push(PieceOwner { client, place })?;
         mark(&mut self.owned, id as usize)?;
         Ok(())
     }
@@ -268,9 +268,9 @@ impl ScriptHeaps {
         ensures { (heaps : Heaps) → Shows self.old heaps
             → FreesNumbered self.new heaps number result }
     {
-        let taker = self.taker(number);
-        match self.clients.get_mut(&taker.client) {
-            Some(heap) => heap.free(taker.place),
+        let owner = self.owner(number);
+        match self.clients.get_mut(&owner.client) {
+            Some(heap) => heap.free(owner.place),
             None => None,
         }
     }

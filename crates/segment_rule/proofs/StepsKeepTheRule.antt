@@ -298,10 +298,10 @@ warden_lost w now o n home free law = record {
   latest = λ t e some. let same : n ≡ 2 * t = e in ((λ _. omega arith), law.latest t e some);
 }
 
-try_at : (v : WardenView) (now expected : ℕ) → IsMoment now → v.taken ≡ false → expected ≡ expected_word v.tries
+try_word : (v : WardenView) (now expected : ℕ) → IsMoment now → v.taken ≡ false → expected ≡ expected_word v.tries
     → (o : OwnerView) (n : ℕ) (home : Home) → o.apart ≡ true → IsLawful (segment o v n home) → (test : Bool) → (n == expected) ≡ test
     → WardenMove (λ n. either (n == expected) 0 n) (kinds.Tries now) v [] o n home
-try_at v now expected moment free guess o n home apart law true is =
+try_word v now expected moment free guess o n home apart law true is =
     let hit : n ≡ expected = grind (arith, nat_tests) in
     let even : n ≢ 1 = λ e. let twice : expected ≡ expected_word v.tries = guess in absurd (omega arith) in
     let found = finds v o n home free law o.phase refl even in
@@ -316,7 +316,7 @@ try_at v now expected moment free guess o n home apart law true is =
       made = subst (λ (b : Bool). kinds.Tries now (segment o v n home) (takes 0 (Some o.left)) (segment o (warden_tries now n true v) (either b 0 n) none)) (sym is)
           (inl (record { apart = apart; from = free; moment = moment; found = hit ∙ guess; moved = refl; is = refl }));
     }
-try_at v now expected moment free guess o n home apart law false is =
+try_word v now expected moment free guess o n home apart law false is =
     let miss : n ≢ expected = grind (arith, nat_tests) in
     record {
       after = warden_tries now n false v;
@@ -332,7 +332,7 @@ try_at v now expected moment free guess o n home apart law false is =
 -- try wins, try loses
 tries : (slots id : ℕ) (v : WardenView) (now expected : ℕ) → IsMoment now → v.taken ≡ false → expected ≡ expected_word v.tries
     → Allows IsRuled slots id (Warden v, []) 0 (λ n. either (n == expected) 0 n) (λ found new. WardenMade (kinds.Tries now) (Warden v, []) found new)
-tries slots id v now expected moment free guess = warden_allows (λ n. either (n == expected) 0 n) (kinds.Tries now) slots id v [] (λ o n home apart law. try_at v now expected moment free guess o n home apart law (n == expected) refl)
+tries slots id v now expected moment free guess = warden_allows (λ n. either (n == expected) 0 n) (kinds.Tries now) slots id v [] (λ o n home apart law. try_word v now expected moment free guess o n home apart law (n == expected) refl)
 
 -- the same of a seat that is known by equations
 pub settles_seat : (slots id : ℕ) (me : Me Slot View) → me ≡ (Owner (owner_of me.0), []) → (owner_of me.0).phase ≡ New → Allows IsRuled slots id me 0 (λ n. n) (λ found new. OwnerMade kinds.Settles me found new)

@@ -9,7 +9,8 @@ ghost use Rattle.segment_rule.specs.Kinds as kinds;
 ghost use Rattle.segment_rule.specs.Seats.{OwnerMakes, WardenMakes, AfterTry};
 
 use crate::rule::{Owned, Place};
-use crate::steps::{is_there, lay_down, open, settle, split, take_away, take_up};
+use crate::steps;
+use crate::steps::{open, settle, split};
 use block_pool::Block;
 use std::alloc::Global;
 use std::marker::{Brand, Model};
@@ -90,7 +91,7 @@ impl OwnerSeat {
             ((hand.new ≡ None) × (self.new ≡ owner_loses self.old)) }
         ensures sized { length self.old.left ≡ PAGE * self.old.pages }
     {
-        take_up(&self.table.shared, &mut self.seat, last, hand)
+        steps::lock(&self.table.shared, &mut self.seat, last, hand)
     }
 
     /// Unlocks a held segment by one exchange, and lays the block in the hand down.
@@ -102,7 +103,7 @@ impl OwnerSeat {
         ensures told { IfSome hand.old (λ b. self.new ≡ owner_rests stamp b self.old) }
         ensures empty { hand.new ≡ None }
     {
-        lay_down(&self.table.shared, &mut self.seat, stamp, hand);
+        steps::unlock(&self.table.shared, &mut self.seat, stamp, hand);
     }
 
     /// Looks at the word of an idle segment by one load: false exactly where it found the purged
@@ -113,7 +114,7 @@ impl OwnerSeat {
         ensures told { MatchBool result
             (self.new ≡ owner_stays self.old) (self.new ≡ owner_loses self.old) }
     {
-        is_there(&self.table.shared, &mut self.seat)
+        steps::look(&self.table.shared, &mut self.seat)
     }
 }
 
@@ -127,6 +128,6 @@ impl WardenSeat {
         ensures made { WardenMakes (kinds.Tries now) self.old self.new }
         ensures told { AfterTry now self.old result.0 result.1 self.new }
     {
-        take_away::<Brand>(&self.table.shared, &mut self.seat, expected, now)
+        steps::try_purge::<Brand>(&self.table.shared, &mut self.seat, expected, now)
     }
 }

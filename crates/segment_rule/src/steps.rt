@@ -1,16 +1,16 @@
-//! The steps on a segment's word, each one exchange or one load, and what a side has after them.
-ghost use Rattle.std.specs.Prelude.{◌≡◌, ◌≢◌, ◌*◌, ◌<◌, ◌≤◌, ◌==◌, ℕ, List, true, false, [], ◌∷◌, Some, None, IfOk, IfSome, MatchBool, MatchOption, length};
+//! What a side does with its seat: at most one step on the word, and then the block moves by it.
+ghost use Rattle.std.specs.Prelude.{◌≡◌, ◌≢◌, ◌*◌, ◌≤◌, ◌==◌, ℕ, List, true, false, [], ◌∷◌, Some, None, IfOk, IfSome, MatchBool, MatchOption, length};
 ghost use Rattle.units.specs.declared.TheConstants.{PAGE};
 ghost use Rattle.units.specs.Moment.{IsMoment};
 ghost use Rattle.segment_rule.specs.Views.{fresh_owner, settled, parted, owner_holds, owner_loses, owner_rests, owner_stays, warden_tries, expected_word, IsTimely};
-ghost use Rattle.segment_rule.specs.Rule.{Slot};
 ghost use Rattle.segment_rule.specs.Kinds as kinds;
-ghost use Rattle.segment_rule.specs.Seats.{owner_of, warden_of, warden_view, Fits, IsOwnerAt, IsFreeWarden, OwnerMade, OwnerUnlocked, WardenMade, OwnerMakes, WardenMakes};
-ghost use Rattle.segment_rule.specs.declared.view.Stage.TheVariants.{New, Held, Idle, Gone};
+ghost use Rattle.segment_rule.specs.Seats.{owner_of, warden_of, warden_view, Fits, IsOwnerAt, IsFreeWarden, OwnerMakes, WardenMakes};
+ghost use Rattle.segment_rule.specs.declared.view.Stage.TheVariants.{New, Held, Idle};
 ghost use Rattle.segment_rule.specs.declared.view.View.TheVariants.{Owner, Warden};
 
-use crate::rule::{Locks, Looks, Moment, Owned, Parts, Place, Settles, Shelf, Tries, Unlocks};
-use crate::words::{locked, purged, unlocked};
+use crate::rule::{Moment, Owned, Parts, Place, Settles, Shelf};
+use crate::word_steps;
+use crate::words::purged;
 use block_pool::Block;
 use std::alloc::{AllocError, Global};
 
@@ -45,56 +45,8 @@ pub fn split(shelf: &Shelf, seat: &mut Place) -> Place
     shelf.split_seat::<Parts>(seat)
 }
 
-/// An idle owner locks. It answers the word that it found.
-fn lock(shelf: &Shelf, seat: &mut Place, last: u64) -> u64
-    requires table { Fits seat.old.table_id shelf.now.table_id }
-    requires owner { IsOwnerAt Idle seat.old.me }
-    requires last { ((owner_of seat.old.me.0).last ≡ last) × IsMoment last }
-    ensures table { seat.new.table_id ≡ seat.old.table_id }
-    ensures made { OwnerMade kinds.Locks seat.old.me result seat.new.me }
-{
-    shelf.compare_exchange::<Locks>(seat, 0, unlocked(last), locked())
-}
-
-/// An owner that holds, with its block in its home, unlocks at a stamp.
-fn unlock(shelf: &Shelf, seat: &mut Place, stamp: u64) -> u64
-    requires table { Fits seat.old.table_id shelf.now.table_id }
-    requires owner { (seat.old.me.0 ≡ Owner (owner_of seat.old.me.0))
-        × ((owner_of seat.old.me.0).phase ≡ Held) }
-    requires block { (b : List ℕ) × (seat.old.me.1 ≡ (0, Some b) ∷ [])
-        × (length b ≡ PAGE * (owner_of seat.old.me.0).pages) }
-    requires stamp { IsMoment stamp × ((owner_of seat.old.me.0).last ≤ stamp) }
-    ensures table { seat.new.table_id ≡ seat.old.table_id }
-    ensures made { OwnerUnlocked stamp seat.old.me result seat.new.me }
-{
-    shelf.compare_exchange::<Unlocks>(seat, 0, locked(), unlocked(stamp))
-}
-
-/// An idle owner looks. It answers the word that it found.
-fn look(shelf: &Shelf, seat: &mut Place) -> u64
-    requires table { Fits seat.old.table_id shelf.now.table_id }
-    requires owner { IsOwnerAt Idle seat.old.me }
-    ensures table { seat.new.table_id ≡ seat.old.table_id }
-    ensures made { OwnerMade kinds.Looks seat.old.me result seat.new.me }
-{
-    shelf.load::<Looks>(seat, 0)
-}
-
-/// A warden that has not taken the block tries to purge at a moment. It answers the word that it
-/// found.
-fn try_at<M: Moment>(shelf: &Shelf, seat: &mut Place, expected: u64) -> u64
-    requires table { Fits seat.old.table_id shelf.now.table_id }
-    requires warden { IsFreeWarden seat.old.me }
-    requires expected { expected ≡ expected_word (warden_of seat.old.me.0).tries }
-    requires moment { IsMoment M.now }
-    ensures table { seat.new.table_id ≡ seat.old.table_id }
-    ensures made { WardenMade (kinds.Tries M.now) seat.old.me result seat.new.me }
-{
-    shelf.compare_exchange::<Tries<M>>(seat, 0, expected, purged())
-}
-
 /// An idle owner locks. It answers true and has the block in its hand, or it found the purged word.
-pub fn take_up(shelf: &Shelf, seat: &mut Place, last: u64, hand: &mut Option<Block>) -> bool
+pub fn lock(shelf: &Shelf, seat: &mut Place, last: u64, hand: &mut Option<Block>) -> bool
     requires table { Fits seat.old.table_id shelf.now.table_id }
     requires owner { IsOwnerAt Idle seat.old.me }
     requires last { ((owner_of seat.old.me.0).last ≡ last) × IsMoment last }
@@ -106,7 +58,7 @@ pub fn take_up(shelf: &Shelf, seat: &mut Place, last: u64, hand: &mut Option<Blo
         × (seat.new.me ≡ (Owner (owner_holds (owner_of seat.old.me.0)), (0, None) ∷ [])))
         ((hand.new ≡ None) × (seat.new.me ≡ (Owner (owner_loses (owner_of seat.old.me.0)), []))) }
 {
-    if lock(shelf, seat, last) == purged() {
+    if word_steps::lock(shelf, seat, last) == purged() {
         return false;
     }
     *hand = shelf.exchange(seat, 0, None);
@@ -114,7 +66,7 @@ pub fn take_up(shelf: &Shelf, seat: &mut Place, last: u64, hand: &mut Option<Blo
 }
 
 /// An owner that holds lays the block in its hand down at a stamp.
-pub fn lay_down(shelf: &Shelf, seat: &mut Place, stamp: u64, hand: &mut Option<Block>)
+pub fn unlock(shelf: &Shelf, seat: &mut Place, stamp: u64, hand: &mut Option<Block>)
     requires table { Fits seat.old.table_id shelf.now.table_id }
     requires owner { IsOwnerAt Held seat.old.me }
     requires block { (b : List ℕ) × (hand.old ≡ Some b)
@@ -130,11 +82,11 @@ pub fn lay_down(shelf: &Shelf, seat: &mut Place, stamp: u64, hand: &mut Option<B
     let None = shelf.exchange(seat, 0, hand.take()) else {
         unreachable!()
     };
-    unlock(shelf, seat, stamp);
+    word_steps::unlock(shelf, seat, stamp);
 }
 
 /// An idle owner looks. It answers false where it found the purged word.
-pub fn is_there(shelf: &Shelf, seat: &mut Place) -> bool
+pub fn look(shelf: &Shelf, seat: &mut Place) -> bool
     requires table { Fits seat.old.table_id shelf.now.table_id }
     requires owner { IsOwnerAt Idle seat.old.me }
     ensures table { seat.new.table_id ≡ seat.old.table_id }
@@ -143,11 +95,11 @@ pub fn is_there(shelf: &Shelf, seat: &mut Place) -> bool
         (seat.new.me ≡ (Owner (owner_stays (owner_of seat.old.me.0)), []))
         (seat.new.me ≡ (Owner (owner_loses (owner_of seat.old.me.0)), [])) }
 {
-    look(shelf, seat) != purged()
+    word_steps::look(shelf, seat) != purged()
 }
 
 /// A purge try, after which the warden has the block where it found the word that it expected.
-pub fn take_away<M: Moment>(
+pub fn try_purge<M: Moment>(
     shelf: &Shelf,
     seat: &mut Place,
     expected: u64,
@@ -172,7 +124,7 @@ pub fn take_away<M: Moment>(
           (0, None) ∷ [],
         ))) }
 {
-    let found = try_at::<M>(shelf, seat, expected);
+    let found = word_steps::try_purge::<M>(shelf, seat, expected);
     if found == expected {
         (found, shelf.exchange(seat, 0, None))
     } else {

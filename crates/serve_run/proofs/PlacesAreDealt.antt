@@ -6,16 +6,16 @@ use Rattle.std.proofs.lemmas.List.{map-append, length-map, take_all, drop_more, 
 use Rattle.std.proofs.Math.ListN.{get_or-append}
 use Rattle.std.proofs.Math.Seq.{get_or-append_seam}
 use Rattle.std.proofs.lemmas.List.Elements.{filter_more, All-get_or}
-use Rattle.reply_block.specs.Framed.{Placed, filled_up}
+use Rattle.reply_places.specs.Framed.{Placed, filled_up}
 use Rattle.request_text.specs.declared.request.Request.{Request}
 use Rattle.request_text.specs.Requests.{AreRequests}
 use Rattle.request_text.specs.declared.limits.TheConstants.{MOST_REQUESTS}
 use Rattle.tile_source.specs.declared.tile.Tile.{Tile}
 use Rattle.manager.specs.Standing.{Held}
-use Rattle.serve_plain.specs.Reply.{tiles_of}
+use Rattle.serve_texts.specs.Reply.{tiles_of}
 use Rattle.serve_session.specs.declared.served.ServedClient.{ServedClient}
 use Rattle.serve_session.specs.Places.{numbers_of, tiles_at, AreEmpty, AreOfClient, AreAnswered, IsAnswered}
-use Rattle.serve_session.specs.Running.{RunValue}
+use Rattle.serve_session.specs.Running.{ServingValue}
 use Rattle.serve_session.specs.Served.{IsServed}
 use Rattle.serve_session.specs.Tiling.{TilingValue, HoldReplies, asked_by, no_request, tile_at, reply_of, replies_to}
 use Rattle.serve_run.specs.Dealing.{AreOf, AreDealt, AllAnswer, AllKeep, HaveRoom, numbers_for}
@@ -120,7 +120,7 @@ numbers_ask requests client (suc k) low =
     ∙ ap (λ (m : ℕ). asked_by client (take m requests)) (sym more)
 
 -- the numbers of all requests of a client are of the client
-pub numbers_of_client : (run : RunValue) (client : ℕ) → length run.requests ≤ MOST_REQUESTS → AreOfClient run client (numbers_for run.requests client (length run.requests))
+pub numbers_of_client : (run : ServingValue) (client : ℕ) → length run.requests ≤ MOST_REQUESTS → AreOfClient run client (numbers_for run.requests client (length run.requests))
 numbers_of_client run client few = record {
   few = let low = numbers_few run.requests client (length run.requests) in omega (arith, low, few);
   within = numbers_below run.requests client (length run.requests);
@@ -130,32 +130,32 @@ numbers_of_client run client few = record {
 -- ---- places are dealt and taken back
 
 -- what holds of each element and of a new one holds of each after the change
-pub each_set : {D : Type 0} (P : ℕ → D → Type 0) (desks : List D) (c : ℕ) (desk : D) → c < length desks
-    → ((i : ℕ) (d : D) → i < length desks → (i ≡ c → ⊥) → P i (get_or desks i d)) → P c desk
-    → (i : ℕ) (d : D) → i < length (set desks c desk) → P i (get_or (set desks c desk) i d)
-each_set P desks c desk within others this i d low =
+pub each_set : {D : Type 0} (P : ℕ → D → Type 0) (workers : List D) (c : ℕ) (worker : D) → c < length workers
+    → ((i : ℕ) (d : D) → i < length workers → (i ≡ c → ⊥) → P i (get_or workers i d)) → P c worker
+    → (i : ℕ) (d : D) → i < length (set workers c worker) → P i (get_or (set workers c worker) i d)
+each_set P workers c worker within others this i d low =
     elim (cases_eq i c) [
-      | inl here ↦ subst (λ (k : ℕ). P k (get_or (set desks c desk) k d)) (sym here) (subst (P c) (sym (get_or-set_same desks c desk d within)) this)
-      | inr there ↦ subst (P i) (sym (get_or-set_other desks c i desk d there)) (others i d (omega (arith, low, length-set desks c desk)) there)
+      | inl here ↦ subst (λ (k : ℕ). P k (get_or (set workers c worker) k d)) (sym here) (subst (P c) (sym (get_or-set_same workers c worker d within)) this)
+      | inr there ↦ subst (P i) (sym (get_or-set_other workers c i worker d there)) (others i d (omega (arith, low, length-set workers c worker)) there)
     ]
 
-module _ {D : Type 0} (places : D → List Placed) (requests : List Request) (k : ℕ) (desks : List D) (c : ℕ) (desk d : D)
-    (within : c < length desks) (whose : (get_or requests k no_request).client ≡ c + 1) where
+module _ {D : Type 0} (places : D → List Placed) (requests : List Request) (k : ℕ) (workers : List D) (c : ℕ) (worker d : D)
+    (within : c < length workers) (whose : (get_or requests k no_request).client ≡ c + 1) where
   other_client : (i : ℕ) → (i ≡ c → ⊥) → (get_or requests k no_request).client ≡ i + 1 → ⊥
   other_client i there same = there (omega (arith, same, whose))
 
-  pub dealt_more : AreDealt places requests k desks → numbers_of (places desk) ≡ numbers_of (places (get_or desks c d)) ++ k ∷ []
-      → AreDealt places requests (k + 1) (set desks c desk)
-  dealt_more dealt is = each_set (λ i e. numbers_of (places e) ≡ numbers_for requests (i + 1) (k + 1)) desks c desk within
+  pub dealt_more : AreDealt places requests k workers → numbers_of (places worker) ≡ numbers_of (places (get_or workers c d)) ++ k ∷ []
+      → AreDealt places requests (k + 1) (set workers c worker)
+  dealt_more dealt is = each_set (λ i e. numbers_of (places e) ≡ numbers_for requests (i + 1) (k + 1)) workers c worker within
       (λ i e low there. dealt i e low ∙ sym (numbers_other requests (i + 1) k (other_client i there)))
       (is ∙ ap (λ (ns : List ℕ). ns ++ k ∷ []) (dealt c d within) ∙ sym (numbers_mine requests (c + 1) k whose))
 
-  pub dealt_last : AreDealt places requests (k + 1) desks → numbers_of (places (get_or desks c d)) ≡ numbers_for requests (c + 1) k ++ k ∷ []
+  pub dealt_last : AreDealt places requests (k + 1) workers → numbers_of (places (get_or workers c d)) ≡ numbers_for requests (c + 1) k ++ k ∷ []
   dealt_last dealt = dealt c d within ∙ numbers_mine requests (c + 1) k whose
 
-  pub dealt_less : AreDealt places requests (k + 1) desks → numbers_of (places desk) ≡ numbers_for requests (c + 1) k
-      → AreDealt places requests k (set desks c desk)
-  dealt_less dealt is = each_set (λ i e. numbers_of (places e) ≡ numbers_for requests (i + 1) k) desks c desk within
+  pub dealt_less : AreDealt places requests (k + 1) workers → numbers_of (places worker) ≡ numbers_for requests (c + 1) k
+      → AreDealt places requests k (set workers c worker)
+  dealt_less dealt is = each_set (λ i e. numbers_of (places e) ≡ numbers_for requests (i + 1) k) workers c worker within
       (λ i e low there. dealt i e low ∙ numbers_other requests (i + 1) k (other_client i there)) is
 
 -- two lists that end in one element each are the same, and so are these
@@ -166,13 +166,13 @@ last_same [] (b ∷ ys) x y e = absurd (omega (arith, ap length e, length-append
 last_same (a ∷ xs) [] x y e = absurd (omega (arith, ap length e, length-append xs (x ∷ [])))
 
 -- the workers have what they need
-pub all_ready : {D : Type 0} (places : D → List Placed) (run : RunValue) (size : ℕ) (desks : List D) → CanServe places run size desks → AllReady places run desks
-all_ready places run size desks can c d low = record {
+pub all_ready : {D : Type 0} (places : D → List Placed) (run : ServingValue) (size : ℕ) (workers : List D) → CanServe places run size workers → AllReady places run workers
+all_ready places run size workers can c d low = record {
   of_client = subst (AreOfClient run (c + 1)) (sym (can.dealt c d low)) (numbers_of_client run (c + 1) can.few);
   empty = can.empty c d low;
 }
 
--- the requests of a run are of its clients, whose desks stand before one more
+-- the requests of a run are of its clients, whose workers stand before one more
 pub of_clients : (clients : ℕ) (requests : List Request) → AreRequests clients requests → AreOf (clients + 1) requests
 of_clients clients requests are = λ k d within. let given = are.each k d within in (given.0, omega (arith, given.1))
 
@@ -225,16 +225,16 @@ pub last_holds : {X : Type 0} (P : X → Type 0) (xs : List X) (x : X) → All P
 last_holds P xs x all = subst P (get_or-append_seam xs x [] x) (all (length xs) x (omega (arith, length-append xs (x ∷ []))))
 
 -- what is seen of each stays where one that is changed keeps it
-pub keep_set : {D A B : Type 0} (one : D → A) (other : D → B) (desks : List D) (c : ℕ) (desk d : D) → c < length desks → one desk ≡ one (get_or desks c d) → other desk ≡ other (get_or desks c d)
-    → AllKeep one other desks (set desks c desk)
-keep_set one other desks c desk d within same same' = (
-  length-set desks c desk,
+pub keep_set : {D A B : Type 0} (one : D → A) (other : D → B) (workers : List D) (c : ℕ) (worker d : D) → c < length workers → one worker ≡ one (get_or workers c d) → other worker ≡ other (get_or workers c d)
+    → AllKeep one other workers (set workers c worker)
+keep_set one other workers c worker d within same same' = (
+  length-set workers c worker,
   λ i e low. elim (cases_eq i c) [
     | inl here ↦
-        let at = ap (λ (k : ℕ). get_or (set desks c desk) k e) here ∙ get_or-set_same desks c desk e within in
-        let was = same_element desks c d e within ∙ ap (λ (k : ℕ). get_or desks k e) (sym here) in
+        let at = ap (λ (k : ℕ). get_or (set workers c worker) k e) here ∙ get_or-set_same workers c worker e within in
+        let was = same_element workers c d e within ∙ ap (λ (k : ℕ). get_or workers k e) (sym here) in
         (ap one at ∙ same ∙ ap one was, ap other at ∙ same' ∙ ap other was)
-    | inr there ↦ (ap one (get_or-set_other desks c i desk e there), ap other (get_or-set_other desks c i desk e there))
+    | inr there ↦ (ap one (get_or-set_other workers c i worker e there), ap other (get_or-set_other workers c i worker e there))
   ],
 )
 
@@ -242,8 +242,8 @@ pub keep_more : {D A B : Type 0} (one : D → A) (other : D → B) (first next l
 keep_more one other first next last k l =
     (l.0 ∙ k.0, λ c d low. let within : c < length next = omega (arith, k.0, low) in ((l.1 c d within).0 ∙ (k.1 c d low).0, (l.1 c d within).1 ∙ (k.1 c d low).1))
 
--- the workers ended, each at its desk
-pub all_ended : {D A : Type 0} (served : A → ServedClient) (places : D → List Placed) (ended : D → Option A) (handle : D → Option Held) (run : RunValue) (size : ℕ) (before after : List D)
+-- the workers ended, each at its worker
+pub all_ended : {D A : Type 0} (served : A → ServedClient) (places : D → List Placed) (ended : D → Option A) (handle : D → Option Held) (run : ServingValue) (size : ℕ) (before after : List D)
     → CanServe places run size before → length after ≡ length before
     → ((c : ℕ) (d : D) → c < length before → HasWorked served run c (places (get_or before c d)) (places (get_or after c d)) (ended (get_or after c d)) (handle (get_or after c d)))
     → HaveEnded served places ended handle run after
@@ -267,17 +267,17 @@ none_answered : (t : TilingValue) (requests : List Request) (places : List Place
 none_answered t requests [] none = λ k d h. absurd (omega arith)
 none_answered t requests (p ∷ places) none = absurd (omega (arith, ap length none))
 
-module _ {D A : Type 0} (served : A → ServedClient) (places : D → List Placed) (ended : D → Option A) (handle : D → Option Held) (run : RunValue) (desks after : List D)
-    (have : HaveEnded served places ended handle run desks) (keep : AllKeep ended handle desks after) where
+module _ {D A : Type 0} (served : A → ServedClient) (places : D → List Placed) (ended : D → Option A) (handle : D → Option Held) (run : ServingValue) (workers after : List D)
+    (have : HaveEnded served places ended handle run workers) (keep : AllKeep ended handle workers after) where
   -- where no client's worker was out of memory, each place has its reply
-  pub all_answer : AreRequests run.cfg.clients run.requests → AreComplete ended run.cfg.clients after → AllAnswer places run.tiling run.requests desks
+  pub all_answer : AreRequests run.cfg.clients run.requests → AreComplete ended run.cfg.clients after → AllAnswer places run.tiling run.requests workers
   all_answer are complete c d low = elim (cases_eq c run.cfg.clients) [
     | inl here ↦
-        none_answered run.tiling run.requests (places (get_or desks c d))
+        none_answered run.tiling run.requests (places (get_or workers c d))
         (have.dealt c d low ∙ ap (λ (k : ℕ). numbers_for run.requests (k + 1) (length run.requests)) here ∙ none_for run.cfg.clients run.requests (length run.requests) are (omega arith))
     | inr there ↦
         let client : c < run.cfg.clients = omega (arith, low, have.all, there) in
-        end_beside (λ e. IsServed run.cfg (c + 1) run.requests (served e)) (AreAnswered run.tiling run.requests (places (get_or desks c d))) (ended (get_or desks c d))
+        end_beside (λ e. IsServed run.cfg (c + 1) run.requests (served e)) (AreAnswered run.tiling run.requests (places (get_or workers c d))) (ended (get_or workers c d))
         (have.ends c d client) (subst IsSome (keep.1 c d low).0 (complete c d client))
   ]
 
@@ -286,9 +286,9 @@ module _ {D A : Type 0} (served : A → ServedClient) (places : D → List Place
   all_served = record {
     all = keep.0 ∙ have.all;
     served_is = λ c d low.
-        let within : c < length desks = omega (arith, low, have.all) in
+        let within : c < length workers = omega (arith, low, have.all) in
         subst (λ (end : Option A). IfSome end (λ e. IsServed run.cfg (c + 1) run.requests (served e))) (sym (keep.1 c d within).0)
-        (end_alone (λ e. IsServed run.cfg (c + 1) run.requests (served e)) (AreAnswered run.tiling run.requests (places (get_or desks c d))) (ended (get_or desks c d)) (have.ends c d low));
+        (end_alone (λ e. IsServed run.cfg (c + 1) run.requests (served e)) (AreAnswered run.tiling run.requests (places (get_or workers c d))) (ended (get_or workers c d)) (have.ends c d low));
     enforced_is = λ d.
         subst (λ (h : Option Held). IfSome h (λ v. v ≡ enforced run.cfg.rounds)) (sym (keep.1 run.cfg.clients d (omega (arith, have.all))).1) (have.enforced_is d);
   }
@@ -306,55 +306,55 @@ pub written_whole : {X : Type 0} (xs ys : List X) (n : ℕ) → length ys ≡ le
 written_whole xs ys n many is =
     ap (λ k. take n (ys ++ drop k xs)) many ∙ (ap (λ zs. take n (ys ++ zs)) (drop_whole xs) ∙ (ap (λ k. take k (ys ++ [])) (is ∙ sym many) ∙ take_whole ys))
 
--- the desks of all clients, without the last one
-pub clients_left : {D A : Type 0} (served : A → ServedClient) (ended : D → Option A) (handle : D → Option Held) (run : RunValue) (desks left : List D) (last : D)
-    → HaveServed served ended handle run desks → desks ≡ left ++ last ∷ []
+-- the workers of all clients, without the last one
+pub clients_left : {D A : Type 0} (served : A → ServedClient) (ended : D → Option A) (handle : D → Option Held) (run : ServingValue) (workers left : List D) (last : D)
+    → HaveServed served ended handle run workers → workers ≡ left ++ last ∷ []
     → (length left ≡ run.cfg.clients) × AllServed served ended run left × IfSome (handle last) (λ h. h ≡ enforced run.cfg.rounds)
-clients_left served ended handle run desks left last have is =
+clients_left served ended handle run workers left last have is =
     let many : length left + 1 ≡ run.cfg.clients + 1 = sym (length-append left (last ∷ [])) ∙ ap length (sym is) ∙ have.all in
     let all : length left ≡ run.cfg.clients = omega (arith, many) in (
       all,
       (λ c d low.
-          subst (λ desk. IfSome (ended desk) (λ e. IsServed run.cfg (c + 1) run.requests (served e)))
+          subst (λ worker. IfSome (ended worker) (λ e. IsServed run.cfg (c + 1) run.requests (served e)))
           (ap (λ ds. get_or ds c d) is ∙ get_or-append left (last ∷ []) d c low) (have.served_is c d (omega (arith, low, all)))),
-      subst (λ desk. IfSome (handle desk) (λ h. h ≡ enforced run.cfg.rounds))
+      subst (λ worker. IfSome (handle worker) (λ h. h ≡ enforced run.cfg.rounds))
           (ap (λ ds. get_or ds run.cfg.clients last) is ∙ ap (λ (k : ℕ). get_or (left ++ last ∷ []) k last) (sym all) ∙ get_or-append_seam left last [] last) (have.enforced_is last),
     )
 
 -- where the ends of these are there, they are in the list with one more
-pub complete_left : {D A : Type 0} (ended : D → Option A) (n : ℕ) (desks left : List D) (last : D) → desks ≡ left ++ last ∷ [] → length left ≡ n
-    → All (λ desk. IsSome (ended desk)) left → AreComplete ended n desks
-complete_left ended n desks left last is all complete c d low =
+pub complete_left : {D A : Type 0} (ended : D → Option A) (n : ℕ) (workers left : List D) (last : D) → workers ≡ left ++ last ∷ [] → length left ≡ n
+    → All (λ worker. IsSome (ended worker)) left → AreComplete ended n workers
+complete_left ended n workers left last is all complete c d low =
     let within : c < length left = omega (arith, low, all) in
-    subst (λ desk. IsSome (ended desk)) (sym (ap (λ ds. get_or ds c d) is ∙ get_or-append left (last ∷ []) d c within)) (complete c d within)
+    subst (λ worker. IsSome (ended worker)) (sym (ap (λ ds. get_or ds c d) is ∙ get_or-append left (last ∷ []) d c within)) (complete c d within)
 
 -- ---- a step of dealing, and of joining
 
 -- there is room for the place that is dealt next
-pub room_left : {D : Type 0} (places : D → List Placed) (room : D → ℕ) (requests : List Request) (k : ℕ) (desks : List D) (c : ℕ) (d : D)
-    → k < length requests → c < length desks → c + 1 ≡ (get_or requests k no_request).client → HaveRoom room requests desks → AreDealt places requests k desks
-    → length (places (get_or desks c d)) < room (get_or desks c d)
-room_left places room requests k desks c d low within whose has dealt =
-    let numbers : length (numbers_of (places (get_or desks c d))) ≡ length (numbers_for requests (c + 1) k) = ap length (dealt c d within) in
-    omega (arith, numbers, length-map (places (get_or desks c d)) (λ (p : Placed). p.number), numbers_fit requests (c + 1) k (length requests) low (sym whose), has c d within)
+pub room_left : {D : Type 0} (places : D → List Placed) (room : D → ℕ) (requests : List Request) (k : ℕ) (workers : List D) (c : ℕ) (d : D)
+    → k < length requests → c < length workers → c + 1 ≡ (get_or requests k no_request).client → HaveRoom room requests workers → AreDealt places requests k workers
+    → length (places (get_or workers c d)) < room (get_or workers c d)
+room_left places room requests k workers c d low within whose has dealt =
+    let numbers : length (numbers_of (places (get_or workers c d))) ≡ length (numbers_for requests (c + 1) k) = ap length (dealt c d within) in
+    omega (arith, numbers, length-map (places (get_or workers c d)) (λ (p : Placed). p.number), numbers_fit requests (c + 1) k (length requests) low (sym whose), has c d within)
 
 -- there is a place to take back
-pub some_left : {D : Type 0} (places : D → List Placed) (requests : List Request) (k : ℕ) (desks : List D) (c : ℕ) (d : D)
-    → c < length desks → c + 1 ≡ (get_or requests k no_request).client → AreDealt places requests (k + 1) desks
-    → 0 < length (places (get_or desks c d))
-some_left places requests k desks c d within whose dealt =
-    let numbers : length (numbers_of (places (get_or desks c d))) ≡ length (numbers_for requests (c + 1) k ++ k ∷ []) =
-    ap length (dealt_last places requests k desks c d d within (sym whose) dealt) in
-    omega (arith, numbers, length-map (places (get_or desks c d)) (λ (p : Placed). p.number), length-append (numbers_for requests (c + 1) k) (k ∷ []))
+pub some_left : {D : Type 0} (places : D → List Placed) (requests : List Request) (k : ℕ) (workers : List D) (c : ℕ) (d : D)
+    → c < length workers → c + 1 ≡ (get_or requests k no_request).client → AreDealt places requests (k + 1) workers
+    → 0 < length (places (get_or workers c d))
+some_left places requests k workers c d within whose dealt =
+    let numbers : length (numbers_of (places (get_or workers c d))) ≡ length (numbers_for requests (c + 1) k ++ k ∷ []) =
+    ap length (dealt_last places requests k workers c d d within (sym whose) dealt) in
+    omega (arith, numbers, length-map (places (get_or workers c d)) (λ (p : Placed). p.number), length-append (numbers_for requests (c + 1) k) (k ∷ []))
 
--- what is left of a desk's places without the last one, and the number of that one
-pub last_left : {D : Type 0} (places : D → List Placed) (requests : List Request) (k : ℕ) (desks : List D) (c : ℕ) (d : D) (left : List Placed) (place : Placed)
-    → c < length desks → c + 1 ≡ (get_or requests k no_request).client → AreDealt places requests (k + 1) desks
-    → places (get_or desks c d) ≡ left ++ place ∷ []
+-- what is left of a worker's places without the last one, and the number of that one
+pub last_left : {D : Type 0} (places : D → List Placed) (requests : List Request) (k : ℕ) (workers : List D) (c : ℕ) (d : D) (left : List Placed) (place : Placed)
+    → c < length workers → c + 1 ≡ (get_or requests k no_request).client → AreDealt places requests (k + 1) workers
+    → places (get_or workers c d) ≡ left ++ place ∷ []
     → (numbers_of left ≡ numbers_for requests (c + 1) k) × (place.number ≡ k)
-last_left places requests k desks c d left place within whose dealt is =
+last_left places requests k workers c d left place within whose dealt is =
     last_same (numbers_of left) (numbers_for requests (c + 1) k) place.number k
-    (sym (map-append (λ (p : Placed). p.number) left (place ∷ [])) ∙ sym (ap numbers_of is) ∙ dealt_last places requests k desks c d d within (sym whose) dealt)
+    (sym (map-append (λ (p : Placed). p.number) left (place ∷ [])) ∙ sym (ap numbers_of is) ∙ dealt_last places requests k workers c d d within (sym whose) dealt)
 
 -- the reply that is joined to those behind it
 pub reply_joined : (t : TilingValue) (requests : List Request) (size : ℕ) (place : Placed) (k : ℕ) (behind : List ℕ)

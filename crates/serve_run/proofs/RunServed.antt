@@ -9,9 +9,9 @@ use Rattle.tile_source.specs.Tile.{reply}
 use Rattle.manager_state.specs.Managed.{Managed}
 use Rattle.manager.specs.Tokens.{Tokens}
 use Rattle.manager.specs.Grows.{carries, is_round, all_carry, Grows}
-use Rattle.serve_plain.specs.Reply.{tiles_of}
+use Rattle.serve_texts.specs.Reply.{tiles_of}
 use Rattle.serve_session.specs.declared.served.ServedClient.{ServedClient}
-use Rattle.serve_session.specs.Running.{RunValue}
+use Rattle.serve_session.specs.Running.{ServingValue}
 use Rattle.serve_session.specs.Tiling.{replies_to}
 use Rattle.serve_session.specs.Served.{AreServed, all_grants}
 use Rattle.serve_run.specs.Removing.{GainsBacks, RemovesAll}
@@ -64,7 +64,7 @@ grows_is l m a b p q xs ws ys grown limit_is granted_is rounds_are before =
     }
 
 -- The run was served: its clients by their workers, and nothing is granted once all clients are removed.
-pub run_served : (run : RunValue) (start shares : Tokens) (clients : List ServedClient)
+pub run_served : (run : ServingValue) (start shares : Tokens) (clients : List ServedClient)
     (limit : ℕ) (handed : List Entry) (finished ended : Managed) (replies : List ℕ) (ends : List ServedClient)
     → HasTaken run run.cfg.clients start shares clients
     → start.grants ≡ 0 → start.rounds ≡ run.cfg.rounds
@@ -93,7 +93,7 @@ run_served run start shares clients limit handed finished ended replies ends tak
     }
 
 -- what was taken in of all clients, when the shares before were all but theirs
-pub taken_from : (run : RunValue) (n whole : ℕ) (start now : Tokens) (clients : List ServedClient)
+pub taken_from : (run : ServingValue) (n whole : ℕ) (start now : Tokens) (clients : List ServedClient)
     → HasTaken run n start now clients → start.parts + n ≡ whole → start.grants ≡ 0 → start.rounds ≡ run.cfg.rounds
     → HasTaken run n (record { parts = whole - n; grants = 0; rounds = run.cfg.rounds }) now clients
 taken_from run n whole start now clients taken parts_are no_grants all_rounds =

@@ -1,7 +1,7 @@
 -- Which place of the replies is whose: the place of each request is dealt to the client that asks.
 use Rattle.std.specs.Prelude.{◌≡◌, ℕ, zero, suc, ◌+◌, ◌==◌, ◌<◌, ◌≤◌, cond, List, [], ◌∷◌, ◌++◌, get_or, length}
 use Rattle.std.specs.List.{All}
-use Rattle.reply_block.specs.Framed.{Placed}
+use Rattle.reply_places.specs.Framed.{Placed}
 use Rattle.request_text.specs.declared.request.Request.{Request}
 use Rattle.serve_session.specs.Places.{numbers_of, AreEmpty, AreAnswered}
 use Rattle.serve_session.specs.Tiling.{TilingValue, no_request}
@@ -18,21 +18,21 @@ numbers_for requests client (suc k) =
 
 -- Each client, the first of which stands first, has the places of its requests among the first k.
 abbrev pub AreDealt : {D : Type 0} → (D → List Placed) → List Request → ℕ → List D → Type 0
-AreDealt {D} places requests k desks = (c : ℕ) (d : D) → c < length desks
-    → numbers_of (places (get_or desks c d)) ≡ numbers_for requests (c + 1) k
+AreDealt {D} places requests k workers = (c : ℕ) (d : D) → c < length workers
+    → numbers_of (places (get_or workers c d)) ≡ numbers_for requests (c + 1) k
 
 -- each client has room for the places of all its requests
 abbrev pub HaveRoom : {D : Type 0} → (D → ℕ) → List Request → List D → Type 0
-HaveRoom {D} room requests desks = (c : ℕ) (d : D) → c < length desks
-    → length (numbers_for requests (c + 1) (length requests)) ≤ room (get_or desks c d)
+HaveRoom {D} room requests workers = (c : ℕ) (d : D) → c < length workers
+    → length (numbers_for requests (c + 1) (length requests)) ≤ room (get_or workers c d)
 
 -- nothing was written to the places of any client
 abbrev pub AllEmpty : {D : Type 0} → (D → List Placed) → List D → Type 0
-AllEmpty {D} places desks = (c : ℕ) (d : D) → c < length desks → AreEmpty (places (get_or desks c d))
+AllEmpty {D} places workers = (c : ℕ) (d : D) → c < length workers → AreEmpty (places (get_or workers c d))
 
 -- each place of each client has the reply to its request
 abbrev pub AllAnswer : {D : Type 0} → (D → List Placed) → TilingValue → List Request → List D → Type 0
-AllAnswer {D} places tiling requests desks = (c : ℕ) (d : D) → c < length desks → AreAnswered tiling requests (places (get_or desks c d))
+AllAnswer {D} places tiling requests workers = (c : ℕ) (d : D) → c < length workers → AreAnswered tiling requests (places (get_or workers c d))
 
 -- as many as before, and two things that are seen of each are the same
 abbrev pub AllKeep : {D A B : Type 0} → (D → A) → (D → B) → List D → List D → Type 0

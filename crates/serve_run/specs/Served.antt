@@ -5,9 +5,9 @@ use Rattle.discard_book.specs.Legal.{IsLegal}
 use Rattle.request_text.specs.declared.request.Request.{Request}
 use Rattle.tile_source.specs.Image.{ImageValue}
 use Rattle.manager.specs.Grows.{Grows}
-use Rattle.serve_plain.specs.declared.config.ServeCfg.{ServeCfg}
-use Rattle.serve_plain.specs.Reply.{reply_to}
-use Rattle.serve_plain.specs.Report.{report}
+use Rattle.serve_texts.specs.declared.config.ServeCfg.{ServeCfg}
+use Rattle.serve_texts.specs.Reply.{reply_to}
+use Rattle.serve_texts.specs.Report.{report}
 use Rattle.serve_session.specs.Served.{AreServed, tallies_of, all_grants}
 use Rattle.serve_run.specs.declared.served.Served.{Served}
 use Rattle.serve_run.specs.Ending.{EndEachOnce}

@@ -21,8 +21,10 @@ pub(crate) fn remove_all(state: &mut State)
 fn remove(state: &mut State, client: u32)
     ensures { CountsOff client state.old state.new }
 {
+    // For the proof: calls up the clauses `legal` and `live` of `State::book`.
     let _before = state.book();
     state.remove_client(client);
+    // For the proof: calls up the clauses `legal` and `live` of `State::book`.
     let _after = state.book();
 }
 

@@ -3,8 +3,8 @@ ghost use Rattle.serve_session.specs.Served.{tallies_of};
 ghost use Rattle.serve_run.specs.Served.{report_of};
 
 use manager_state::State;
-use serve_plain::{Replies, Tally, report_bytes};
 use serve_session::ServedClients;
+use serve_texts::{Replies, Tally, report_bytes};
 use std::alloc::Global;
 use units::NoMemory;
 

@@ -1,7 +1,7 @@
 ghost use Rattle.std.specs.Prelude.{◌≡◌, [], length, true, IfOk};
 ghost use Rattle.request_text.specs.Requests.{AreRequests};
 ghost use Rattle.manager.specs.declared.shares.TheConstants.{PARTS};
-ghost use Rattle.serve_plain.specs.Config.{IsServeCfg};
+ghost use Rattle.serve_texts.specs.Config.{IsServeCfg};
 ghost use Rattle.serve_session.specs.Tiling.{HoldReplies};
 ghost use Rattle.serve_run.specs.Served.{Serves};
 
@@ -12,11 +12,11 @@ use crate::workers::serve_all;
 use discard_io::{Clock, Gate};
 use manager::{Fixed, Manager, PARTS};
 use manager_state::State;
-use reply_block::{Layout, Room};
+use reply_places::{Layout, Room};
 use request_text::Requests;
 use return_queue::{Returns, RuledReturns};
-use serve_plain::{Replies, ServeCfg};
-use serve_session::{Run, ServedClients};
+use serve_session::{ServedClients, Serving};
+use serve_texts::{Replies, ServeCfg};
 use std::alloc::Global;
 use std::marker::Brand;
 use std::sync::Wait;
@@ -44,7 +44,7 @@ pub fn serve<H: Threads + Wait + Sync, C: Clock + Sync, T: Gate + Sync>(
     requires requests { AreRequests cfg.now.clients requests.now }
     ensures { IfOk result (λ served. Serves cfg.now image.now requests.now served) }
 {
-    let run = Run::new(alloc, cfg, image, requests, clock, gate)?;
+    let run = Serving::new(alloc, cfg, image, requests, clock, gate)?;
     let room = Room::new(
         alloc,
         run.requests().as_slice().len(),
@@ -64,7 +64,7 @@ pub fn serve<H: Threads + Wait + Sync, C: Clock + Sync, T: Gate + Sync>(
 fn serve_as<R, F, G, E, H, C, T>(
     rt: &H,
     alloc: Global,
-    run: &Run<'_, C, T>,
+    run: &Serving<'_, C, T>,
     room: Room,
     state: State,
     made: (R, R::Pass, R::Taker),

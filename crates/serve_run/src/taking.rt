@@ -1,18 +1,19 @@
 //! What the workers ended with is taken in, client by client.
 ghost use Rattle.std.specs.Prelude.{◌≡◌, ◌+◌, ◌^◌, ◌<◌, ◌≤◌, ℕ, length, true, IfOk, OnOk};
 ghost use Rattle.request_text.specs.declared.limits.TheConstants.{MOST_REQUESTS};
-ghost use Rattle.serve_plain.specs.declared.limits.TheConstants.{MOST_CLIENTS, MOST_ROUNDS};
+ghost use Rattle.line_text.specs.declared.limits.TheConstants.{MOST_CLIENTS};
+ghost use Rattle.serve_texts.specs.declared.limits.TheConstants.{MOST_ROUNDS};
 ghost use Rattle.manager.specs.Tokens.{Tokens};
 ghost use Rattle.manager.specs.declared.shares.TheConstants.{PARTS};
-ghost use Rattle.serve_session.specs.Running.{RunValue};
+ghost use Rattle.serve_session.specs.Running.{ServingValue};
 ghost use Rattle.serve_session.specs.Served.{IsServed};
 ghost use Rattle.serve_run.specs.Working.{AllServed, HasTaken};
 
-use crate::worker::{Desk, Ended};
+use crate::worker::{Worker, WorkerEnd};
 use manager::{Drains, Fixed, Manager, Shares};
-use reply_block::Layout;
+use reply_places::Layout;
 use return_queue::Returns;
-use serve_session::{Run, ServedClient};
+use serve_session::{ServedClient, Serving};
 use std::alloc::Global;
 use std::sync::Wait;
 use std::sync::ledger::Ledger;
@@ -33,9 +34,9 @@ pub(crate) struct Taken<G: Ledger, E: Ledger> {
 pub(crate) fn take_all<R, F, G, E, H, C, T>(
     rt: &H,
     alloc: Global,
-    run: &Run<'_, C, T>,
+    run: &Serving<'_, C, T>,
     manager: &Manager<R, F, G, E>,
-    desks: Vec<Desk<'_, R, F, G, E>>,
+    workers: Vec<Worker<'_, R, F, G, E>>,
     shares: Shares<G, E>,
     drains: Drains,
 ) -> Result<Taken<G, E>, NoMemory>
@@ -47,12 +48,12 @@ where
     H: Wait,
     requires counts { F.counts ≡ true }
     requires few { run.now.cfg.clients ≤ MOST_CLIENTS }
-    requires all { length desks.items ≡ run.now.cfg.clients }
+    requires all { length workers.items ≡ run.now.cfg.clients }
     requires parts { shares.parts + run.now.cfg.clients ≤ PARTS }
     requires grants { shares.grants ≡ 0 }
     requires rounds { shares.rounds ≤ MOST_ROUNDS }
     requires drains { drains ≤ 1 }
-    requires served { AllServed (λ e. e.served) (λ desk. desk.ended) run.now desks.items }
+    requires served { AllServed (λ e. e.served) (λ worker. worker.ended) run.now workers.items }
     ensures taken { IfOk result (λ taken.
         HasTaken run.now run.now.cfg.clients shares taken.shares taken.clients.items) }
     ensures drained { IfOk result (λ taken. taken.drains ≡ drains + run.now.cfg.clients) }
@@ -62,8 +63,8 @@ where
         shares,
         drains,
     };
-    for desk in desks {
-        let Desk { ended, .. } = desk;
+    for worker in workers {
+        let Worker { ended, .. } = worker;
         let Some(ended) = ended else {
             return Err(NoMemory);
         };
@@ -73,25 +74,19 @@ where
 }
 
 /// Takes the end of the next client in.
-fn take_one<R, F, G, E, H>(
+fn take_one<R: Returns + Drop, F: Fixed, G: Ledger, E: Ledger, H: Wait>(
     rt: &H,
     manager: &Manager<R, F, G, E>,
-    ended: Ended<'_, R, F, G, E>,
+    ended: WorkerEnd<'_, R, F, G, E>,
     taken: &mut Taken<G, E>,
 ) -> Result<(), NoMemory>
-where
-    R: Returns + Drop,
-    F: Fixed,
-    G: Ledger,
-    E: Ledger,
-    H: Wait,
     requires counts { F.counts ≡ true }
     requires parts { taken.old.shares.parts < PARTS }
     requires grants { taken.old.shares.grants + MOST_REQUESTS < 2 ^ 64 }
     requires rounds { taken.old.shares.rounds < 2 ^ 64 }
     requires drains { taken.old.drains + 1 < 2 ^ 64 }
     ensures drained { OnOk result (taken.new.drains ≡ taken.old.drains + 1) }
-    ensures taken { OnOk result ((run : RunValue) (n : ℕ) (start : Tokens)
+    ensures taken { OnOk result ((run : ServingValue) (n : ℕ) (start : Tokens)
         → HasTaken run n start taken.old.shares taken.old.clients.items
         → IsServed run.cfg (n + 1) run.requests ended.entry.served
         → HasTaken run (n + 1) start taken.new.shares taken.new.clients.items) }

@@ -3,11 +3,11 @@ use Rattle.std.proofs.Common.{◌≡◌, ℕ, suc, zero, refl, ◌+◌, ◌<◌,
 use Rattle.std.proofs.lemmas.Bool.{cases_eq}
 use Rattle.std.proofs.lemmas.List.{map-append, length-map, take_more, get_or-set_same, get_or-set_other, length-set, get_or-map}
 use Rattle.std.proofs.lemmas.List.Elements.{All-get_or}
-use Rattle.reply_block.specs.Framed.{Placed}
+use Rattle.reply_places.specs.Framed.{Placed}
 use Rattle.request_text.specs.declared.request.Request.{Request}
 use Rattle.request_text.specs.Requests.{AreRequests, IsRequest}
 use Rattle.tile_source.specs.Tile.{IsTile}
-use Rattle.serve_session.specs.Running.{RunValue}
+use Rattle.serve_session.specs.Running.{ServingValue}
 use Rattle.serve_session.specs.Tiling.{asked_by, tile_at, no_request}
 use Rattle.serve_session.specs.Places.{numbers_of, tiles_at, AreOfClient}
 
@@ -45,7 +45,7 @@ one_more_tile requests numbers count d within =
     ap (tiles_at requests) (take_more numbers count d within) ∙ map-append (tile_at requests) (take count numbers) (get_or numbers count d ∷ [])
 
 -- a client's places are as many as its requests
-pub places_many : (run : RunValue) (client : ℕ) (places : List Placed) → AreOfClient run client (numbers_of places) → length places ≡ length (asked_by client run.requests)
+pub places_many : (run : ServingValue) (client : ℕ) (places : List Placed) → AreOfClient run client (numbers_of places) → length places ≡ length (asked_by client run.requests)
 places_many run client places are =
     sym (length-map places (λ (p : Placed). p.number)) ∙ sym (length-map (numbers_of places) (tile_at run.requests)) ∙ ap length are.asked
 

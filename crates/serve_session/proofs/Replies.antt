@@ -5,7 +5,7 @@ use Rattle.std.proofs.lemmas.Fmt.{length-decimal-le}
 use Rattle.tile_source.specs.declared.tile.Tile.{Tile}
 use Rattle.tile_source.specs.Length.{length-tile}
 use Rattle.tile_source.specs.Pgm.{head}
-use Rattle.serve_plain.specs.Config.{IsSide}
+use Rattle.serve_texts.specs.Config.{IsSide}
 use Rattle.serve_session.specs.Tiling.{TilingValue, HoldReplies, bytes_of, reply_of, size_of}
 
 -- a reply is a head and the bytes of a tile

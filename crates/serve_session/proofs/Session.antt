@@ -16,9 +16,9 @@ use Rattle.tile_cache.specs.Asked.{Count}
 use Rattle.tile_cache.specs.Bound.{IsFresh, IsBounded, EndsBounded}
 use Rattle.tile_cache.specs.Getting.{Gets, Rests, pages_of}
 use Rattle.tile_cache.specs.Ended.{Ended, Closes}
-use Rattle.serve_plain.specs.Config.{IsServeCfg, IsSide}
+use Rattle.serve_texts.specs.Config.{IsServeCfg, IsSide}
 use Rattle.serve_session.specs.Tiling.{TilingValue, Makes, size_of, asked_by}
-use Rattle.serve_session.specs.Running.{RunValue, IsUsed, HasServed, all_counts}
+use Rattle.serve_session.specs.Running.{ServingValue, IsUsed, HasServed, all_counts}
 use Rattle.serve_session.specs.Served.{IsServed, IsBoundedBySegments, counts_of, tile_pages}
 use Rattle.serve_session.specs.declared.served.ServedClient.{ServedClient}
 
@@ -55,7 +55,7 @@ module _ {G : Type 0} where
       (subst (λ (n : ℕ). IsUsedWith (λ (t : Tile). tile maker.image t.z t.x t.y maker.side) n cache) makes.size used)
 
   -- a request was served: its tile was shown and copied behind its head, and the cache rested
-  pub served_more : {moment : ℕ} (run : RunValue) (asked : List Tile) (granter : G) (tile : Tile) (told : Shown) (old shown new : Cached G)
+  pub served_more : {moment : ℕ} (run : ServingValue) (asked : List Tile) (granter : G) (tile : Tile) (told : Shown) (old shown new : Cached G)
       → IsServeCfg run.cfg → length asked < MOST_REQUESTS
       → HasServed run asked granter old
       → Gets tile told old shown → IsUsed run.tiling shown → Rests moment shown new
@@ -84,7 +84,7 @@ module _ {G : Type 0} where
       }
 
   -- a cache's end is bounded by its client's segments
-  end_bounded : (run : RunValue) (asked : List Tile) (granter : G) (cache : Cached G) (end : Ended)
+  end_bounded : (run : ServingValue) (asked : List Tile) (granter : G) (cache : Cached G) (end : Ended)
       → HasServed run asked granter cache → EndsBounded cache end
       → IsBounded (tile_pages run.cfg.side) run.cfg.standard end
   end_bounded run asked granter cache end has ends =
@@ -92,7 +92,7 @@ module _ {G : Type 0} where
       (subst (λ (n : ℕ). IsBounded (tile_pages n) cache.start.client.standard end) has.side (ends has.fresh has.failed (size_of run.tiling) has.used.sized))
 
   -- a client whose requests were all served, at the closing of its cache
-  pub served_closed : (run : RunValue) (number : ℕ) (granter : G) (cache : Cached G) (served : ServedClient)
+  pub served_closed : (run : ServingValue) (number : ℕ) (granter : G) (cache : Cached G) (served : ServedClient)
       → length (asked_by number run.requests) ≤ MOST_REQUESTS
       → HasServed run (asked_by number run.requests) granter cache
       → Closes cache served.end → EndsBounded cache served.end
@@ -128,7 +128,7 @@ module _ {G : Type 0} where
       }
 
   -- so it was granted few segments
-  pub few_granted : (run : RunValue) (asked : List Tile) (granter : G) (cache : Cached G) (served : ServedClient)
+  pub few_granted : (run : ServingValue) (asked : List Tile) (granter : G) (cache : Cached G) (served : ServedClient)
       → length asked ≤ MOST_REQUESTS → HasServed run asked granter cache → Closes cache served.end
       → counts_of served.tally ≡ served.end.counts → IsBoundedBySegments run.cfg asked served
       → served.tally.grants ≤ MOST_REQUESTS

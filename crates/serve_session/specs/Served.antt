@@ -7,8 +7,8 @@ use Rattle.client.specs.Sizes.{pages_for}
 use Rattle.tile_cache.specs.declared.counts.Counts.{Counts}
 use Rattle.tile_cache.specs.Recent.{recent, hits, firsts, agains}
 use Rattle.tile_cache.specs.Bound.{room_in}
-use Rattle.serve_plain.specs.declared.config.ServeCfg.{ServeCfg}
-use Rattle.serve_plain.specs.declared.tally.Tally.{Tally}
+use Rattle.serve_texts.specs.declared.config.ServeCfg.{ServeCfg}
+use Rattle.serve_texts.specs.declared.tally.Tally.{Tally}
 use Rattle.serve_session.specs.declared.served.ServedClient.{ServedClient}
 use Rattle.serve_session.specs.Tiling.{asked_by}
 

@@ -6,7 +6,7 @@ use Rattle.tile_source.specs.Image.{ImageValue, tile}
 use Rattle.tile_source.specs.Maker.{MakerValue}
 use Rattle.tile_source.specs.Pgm.{head}
 use Rattle.tile_source.specs.Tile.{reply}
-use Rattle.serve_plain.specs.Reply.{tiles_of}
+use Rattle.serve_texts.specs.Reply.{tiles_of}
 
 -- an image, and the side of its tiles
 pub record TilingValue : Type 0 where

@@ -1,6 +1,6 @@
 ghost use Rattle.std.specs.Prelude.{◌≡◌, length, slice_get, option_map};
 
-use serve_plain::Tally;
+use serve_texts::Tally;
 use std::marker::Model;
 use tile_cache::CacheEnd;
 

@@ -1,6 +1,6 @@
 ghost use Rattle.std.specs.Prelude.{◌≡◌, ◌≤◌, IfOk};
 ghost use Rattle.tile_source.specs.Pgm.{head};
-ghost use Rattle.serve_plain.specs.Config.{IsSide};
+ghost use Rattle.serve_texts.specs.Config.{IsSide};
 ghost use Rattle.serve_session.specs.declared.tiling.TheConstants.{MOST_REPLY};
 ghost use Rattle.serve_session.specs.Tiling.{Makes, HoldReplies};
 
@@ -25,7 +25,7 @@ impl<'a> Model for Tiling<'a> {
     ghost use Rattle.std.specs.Prelude.{◌≡◌, ◌≤◌};
     ghost use Rattle.tile_source.specs.Pgm.{head};
     ghost use Rattle.tile_source.specs.declared.limits.TheConstants.{MOST_MAXVAL};
-    ghost use Rattle.serve_plain.specs.Config.{IsSide};
+    ghost use Rattle.serve_texts.specs.Config.{IsSide};
     ghost use Rattle.serve_session.specs.Tiling.{TilingValue};
 
     ghost Value = { TilingValue };

@@ -12,7 +12,7 @@ use Rattle.span_heap.specs.Segment.{Segment, pages_in}
 use Rattle.span_heap.specs.Run.{lies_in, pages_of}
 use Rattle.span_heap.specs.Runs.{front_of, back_of, rest_of, pages_before, pages_behind, freed, dropped}
 use Rattle.span_heap.specs.Changes.{whole_of}
-use Rattle.span_heap.specs.Heap.{Contents, contents, IsPartition, IsKept, has_id, has_segment, size_of}
+use Rattle.span_heap.specs.Heap.{Contents, contents, IsPartition, IsSoundHeap, has_id, has_segment, size_of}
 use Rattle.span_heap.proofs.Sums.{sum_by-filter, cond-sum}
 use Rattle.span_heap.proofs.PartitionByCounts.{partition_from, counts_of, sum_by-with, sum_by-given, length-le-pages_of, used_end-le-size}
 use Rattle.span_heap.proofs.CarvingKeepsThePartition.{IsCounted-carved, carved_sum, rest_sum, cut_length, IsCounted-cut, cut_sum}
@@ -33,10 +33,10 @@ same_in_segment : (id : ℕ) (used free used' free' : List Run) → sum_by (page
 same_in_segment id used free used' free' same =
     omega (arith, same, pages_in-is id used, pages_in-is id free, pages_in-is id used', pages_in-is id free')
 
-pub IsKept-carved : (segments : List Segment) (used free others used' : List Run) (run : Run) (n pages free_pages : ℕ) → IsKept (contents segments used free) pages free_pages
+pub IsSoundHeap-carved : (segments : List Segment) (used free others used' : List Run) (run : Run) (n pages free_pages : ℕ) → IsSoundHeap (contents segments used free) pages free_pages
     → IsPermutation free (run ∷ others) → IsPermutation (front_of run n ∷ used) used' → 1 ≤ n → n ≤ run.pages
-    → (n ≤ free_pages) × IsKept (contents segments used' (others ++ rest_of run n)) pages (free_pages - n)
-IsKept-carved segments used free others used' run n pages free_pages kept taken given low high =
+    → (n ≤ free_pages) × IsSoundHeap (contents segments used' (others ++ rest_of run n)) pages (free_pages - n)
+IsSoundHeap-carved segments used free others used' run n pages free_pages kept taken given low high =
     let length = rest_sum (λ x. x.pages) run n high (λ more. cut_length run n high) in
     let all = carved_sum (λ x. x.pages) used free others used' run n taken given length in
     let here = sum_by-with (λ x. x.pages) free others run taken in
@@ -89,9 +89,9 @@ joined_there : (b : Bool) (early here late : ℕ) → cond {A = ℕ} b (early + 
 joined_there true early here late = omega arith
 joined_there false early here late = omega arith
 
-pub IsKept-freed : (segments : List Segment) (used free used' : List Run) (span : Run) (pages free_pages : ℕ) → IsKept (contents segments used free) pages free_pages
-    → IsPermutation used (span ∷ used') → IsKept (contents segments used' (freed free span)) pages (free_pages + span.pages)
-IsKept-freed segments used free used' span pages free_pages kept taken =
+pub IsSoundHeap-freed : (segments : List Segment) (used free used' : List Run) (span : Run) (pages free_pages : ℕ) → IsSoundHeap (contents segments used free) pages free_pages
+    → IsPermutation used (span ∷ used') → IsSoundHeap (contents segments used' (freed free span)) pages (free_pages + span.pages)
+IsSoundHeap-freed segments used free used' span pages free_pages kept taken =
     record {
       partition = partition_from _ (IsCounted-freed segments used free used' span (counts_of _ kept.partition) taken);
       small = kept.small;
@@ -116,10 +116,10 @@ IsKept-freed segments used free used' span pages free_pages kept taken =
     all : pages_of used' + pages_of (freed free span) ≡ pages_of used + pages_of free
     all = freed_sum (λ x. x.pages) used free used' span taken sized (omega arith)
 
-pub IsKept-cut : (segments : List Segment) (used free used' : List Run) (span : Run) (n pages free_pages : ℕ) → IsKept (contents segments used free) pages free_pages
+pub IsSoundHeap-cut : (segments : List Segment) (used free used' : List Run) (span : Run) (n pages free_pages : ℕ) → IsSoundHeap (contents segments used free) pages free_pages
     → IsPermutation (front_of span n ∷ back_of span n ∷ used) (span ∷ used') → 1 ≤ n → n < span.pages
-    → IsKept (contents segments used' free) pages free_pages
-IsKept-cut segments used free used' span n pages free_pages kept swapped low high =
+    → IsSoundHeap (contents segments used' free) pages free_pages
+IsSoundHeap-cut segments used free used' span n pages free_pages kept swapped low high =
     record {
       partition = partition_from _ (IsCounted-cut segments used free used' span n (counts_of _ kept.partition) swapped low high);
       small = kept.small;
@@ -142,10 +142,10 @@ size_there id segment = cond (has_id id segment) segment.pages 0
 pub size_there-is : (id : ℕ) (segments : List Segment) → size_of (filter (has_id id) segments) ≡ sum_by (size_there id) segments
 size_there-is id segments = sum_by-filter (λ segment. segment.pages) (has_id id) segments
 
-pub IsKept-grown : (segments : List Segment) (used free used' : List Run) (segment more pages free_pages : ℕ) → IsKept (contents segments used free) pages free_pages
+pub IsSoundHeap-grown : (segments : List Segment) (used free used' : List Run) (segment more pages free_pages : ℕ) → IsSoundHeap (contents segments used free) pages free_pages
     → has_segment segments segment ≡ false → IsPermutation (whole_of segment more ∷ used) used' → 1 ≤ more → pages + more < 2 ^ 32
-    → IsKept (contents (segments ++ record { id = segment; pages = more } ∷ []) used' free) (pages + more) free_pages
-IsKept-grown segments used free used' segment more pages free_pages kept absent given sized small =
+    → IsSoundHeap (contents (segments ++ record { id = segment; pages = more } ∷ []) used' free) (pages + more) free_pages
+IsSoundHeap-grown segments used free used' segment more pages free_pages kept absent given sized small =
     record {
       partition = partition_from _ (IsCounted-grown segments used free used' segment more (counts_of _ kept.partition) absent given sized);
       small = small;
@@ -164,10 +164,10 @@ IsKept-grown segments used free used' segment more pages free_pages kept absent 
       );
     }
 
-pub IsKept-dropped : (segments : List Segment) (used free used' : List Run) (segment pages free_pages : ℕ) → IsKept (contents segments used free) pages free_pages
+pub IsSoundHeap-dropped : (segments : List Segment) (used free used' : List Run) (segment pages free_pages : ℕ) → IsSoundHeap (contents segments used free) pages free_pages
     → IsPermutation (dropped used segment) used'
-    → IsKept (contents (filter (λ other. not (has_id segment other)) segments) used' (dropped free segment)) (pages - (pages_in segment used + pages_in segment free)) (free_pages - pages_in segment free)
-IsKept-dropped segments used free used' segment pages free_pages kept left =
+    → IsSoundHeap (contents (filter (λ other. not (has_id segment other)) segments) used' (dropped free segment)) (pages - (pages_in segment used + pages_in segment free)) (free_pages - pages_in segment free)
+IsSoundHeap-dropped segments used free used' segment pages free_pages kept left =
     record {
       partition = partition_from _ (IsCounted-dropped segments used free used' segment (counts_of _ kept.partition) left);
       small = omega (arith, kept.small);
@@ -198,12 +198,12 @@ IsKept-dropped segments used free used' segment pages free_pages kept left =
     of_segments = sum_by-filter_both (has_id segment) (λ other. not (has_id segment other)) (λ other. refl) (λ other. other.pages) segments
 
 -- no more used spans than pages, and no more free runs
-pub room : (heap : Contents) (pages free_pages : ℕ) → IsKept heap pages free_pages → length heap.used + length heap.free ≤ pages
+pub room : (heap : Contents) (pages free_pages : ℕ) → IsSoundHeap heap pages free_pages → length heap.used + length heap.free ≤ pages
 room heap pages free_pages kept =
     omega (arith, kept.whole, length-le-pages_of heap.used (counts_of _ kept.partition).used_sized, length-le-pages_of heap.free (counts_of _ kept.partition).free_sized)
 
 -- the end of a span is below 2^32
-pub end_fits : (heap : Contents) (span : Run) (pages free_pages : ℕ) → IsKept heap pages free_pages → Contains heap.used span → span.first + span.pages < 2 ^ 32
+pub end_fits : (heap : Contents) (span : Run) (pages free_pages : ℕ) → IsSoundHeap heap pages free_pages → Contains heap.used span → span.first + span.pages < 2 ^ 32
 end_fits heap span pages free_pages kept there = omega (arith, kept.small, kept.size, used_end-le-size heap (counts_of heap kept.partition) span there)
 
 -- a list that one more was pushed to, in another order

@@ -11,14 +11,14 @@ use Rattle.span_heap.specs.Segment.{Segment}
 use Rattle.span_heap.specs.Run.{lies_in, has_page, begins_at, ends_at, is_beside, is_run, pages_of}
 use Rattle.span_heap.specs.Runs.{front_of, back_of, rest_of, pages_before, pages_behind, joined, freed, dropped}
 use Rattle.span_heap.specs.Pick.{fits, is_long, exact_length, latest, pick}
-use Rattle.span_heap.specs.Heap.{Contents, contents, LiesWithin, IsPartition, IsKept, has_id, has_segment, size_of}
+use Rattle.span_heap.specs.Heap.{Contents, contents, LiesWithin, IsPartition, IsSoundHeap, has_id, has_segment, size_of}
 use Rattle.span_heap.specs.Changes.{NoneIn, whole_of, segment_of}
 use Rattle.span_heap.specs.Table.{BeginFrom}
 use Rattle.span_heap.proofs.Sums.{counted, filter_at_most_one}
 use Rattle.span_heap.proofs.PartitionByCounts.{counts_of, count_of_absent, at_most_once, begins-le-pages, has_page-within, is_run-true, is_run-once, one_if, sum_by-with, free_end-le-size, used_end-le-size}
 use Rattle.span_heap.proofs.CarvingKeepsThePartition.{rest_cases}
 use Rattle.span_heap.proofs.FreeingKeepsThePartition.{pages_before-le, beside_fit, ends_before_it}
-use Rattle.span_heap.proofs.CountsAreKept.{IsKept-carved, IsKept-cut, IsKept-freed, pushed, cut_in_two}
+use Rattle.span_heap.proofs.CountsAreKept.{IsSoundHeap-carved, IsSoundHeap-cut, IsSoundHeap-freed, pushed, cut_in_two}
 use Rattle.span_heap.proofs.SegmentsComeAndLeave.{sum_by-filter-le}
 use Rattle.span_heap.proofs.PlacedRunsKeepTheirPlaces.{filter_same}
 use Rattle.span_heap.proofs.SearchTakesThePick.{pick_has_pages}
@@ -57,11 +57,11 @@ run_taken runs run few there itself =
 
 -- a heap by its three lists
 pub kept_as : (heap : Contents) (segments : List Segment) (used free : List Run) (pages free_pages : ℕ) → heap.segments ≡ segments → heap.used ≡ used → heap.free ≡ free
-    → IsKept (contents segments used free) pages free_pages → IsKept heap pages free_pages
+    → IsSoundHeap (contents segments used free) pages free_pages → IsSoundHeap heap pages free_pages
 kept_as heap segments used free pages free_pages same_segments same_used same_free kept =
-    subst (λ s. IsKept (contents s heap.used heap.free) pages free_pages) (sym same_segments)
-    (subst (λ u. IsKept (contents segments u heap.free) pages free_pages) (sym same_used)
-    (subst (λ f. IsKept (contents segments used f) pages free_pages) (sym same_free) kept))
+    subst (λ s. IsSoundHeap (contents s heap.used heap.free) pages free_pages) (sym same_segments)
+    (subst (λ u. IsSoundHeap (contents segments u heap.free) pages free_pages) (sym same_used)
+    (subst (λ f. IsSoundHeap (contents segments used f) pages free_pages) (sym same_free) kept))
 
 -- a picked run is free
 find_there : (test : Run → Bool) (runs : List Run) (run : Run) → find test runs ≡ Some run → Contains runs run
@@ -98,13 +98,13 @@ pub record CanCarve (heap : Contents) (run : Run) (n pages free_pages : ℕ) : T
   pub small : pages_of heap.used + n < 2 ^ 32
   pub end : run.first + run.pages < 2 ^ 32
   pub low : n ≤ free_pages
-  pub kept : IsKept (contents heap.segments (heap.used ++ front_of run n ∷ []) (filter (λ x. not (is_run run x)) heap.free ++ rest_of run n)) pages (free_pages - n)
+  pub kept : IsSoundHeap (contents heap.segments (heap.used ++ front_of run n ∷ []) (filter (λ x. not (is_run run x)) heap.free ++ rest_of run n)) pages (free_pages - n)
   pub back_lies : n < run.pages → LiesWithin heap.segments (back_of run n)
   pub back_not_free : n < run.pages → All (λ x. begins_at run.segment (run.first + n) x ≡ false) (filter (λ x. not (is_run run x)) heap.free)
   pub back_not_used : n < run.pages → All (λ x. begins_at run.segment (run.first + n) x ≡ false) (heap.used ++ front_of run n ∷ [])
   pub back_small : n < run.pages → pages_of (filter (λ x. not (is_run run x)) heap.free) + (run.pages - n) < 2 ^ 32
 
-pub can_carve : (heap : Contents) (n slack pages free_pages : ℕ) (run : Run) → IsKept heap pages free_pages → pick heap.free n slack ≡ Some run → 1 ≤ n → CanCarve heap run n pages free_pages
+pub can_carve : (heap : Contents) (n slack pages free_pages : ℕ) (run : Run) → IsSoundHeap heap pages free_pages → pick heap.free n slack ≡ Some run → 1 ≤ n → CanCarve heap run n pages free_pages
 can_carve heap n slack pages free_pages run kept picked some =
     let there = pick_there heap.free n slack run picked in
     let fits_in : n ≤ run.pages = pick_has_pages heap.free n slack run picked in
@@ -112,7 +112,7 @@ can_carve heap n slack pages free_pages run kept picked some =
     let front = front_of run n in
     let once = is_run-once heap (counts_of heap kept.partition) run (omega (arith, some, fits_in)) in
     let itself : is_run run run ≡ true = and_from _ _ (eq-eqb run.segment run.segment refl) (and_from _ _ (eq-eqb run.first run.first refl) (eq-eqb run.pages run.pages refl)) in
-    let new = IsKept-carved heap.segments heap.used heap.free others (heap.used ++ front ∷ []) run n pages free_pages kept (run_taken heap.free run once there itself) (pushed heap.used front) some fits_in in
+    let new = IsSoundHeap-carved heap.segments heap.used heap.free others (heap.used ++ front ∷ []) run n pages free_pages kept (run_taken heap.free run once there itself) (pushed heap.used front) some fits_in in
     let whole = new.1.partition in
     let sized_used : All (λ (x : Run). 1 ≤ x.pages) heap.used = (counts_of heap kept.partition).used_sized in
     let sized_front : All (λ (x : Run). 1 ≤ x.pages) (heap.used ++ front ∷ []) = (counts_of _ whole).used_sized in
@@ -161,7 +161,7 @@ can_carve heap n slack pages free_pages run kept picked some =
         let back = back_of run n in
         let once = is_run-once heap (counts_of heap kept.partition) run (omega (arith, some, fits_in)) in
         let itself : is_run run run ≡ true = and_from _ _ (eq-eqb run.segment run.segment refl) (and_from _ _ (eq-eqb run.first run.first refl) (eq-eqb run.pages run.pages refl)) in
-        let new = IsKept-carved heap.segments heap.used heap.free others (heap.used ++ front ∷ []) run n pages free_pages kept (run_taken heap.free run once there itself) (pushed heap.used front) some fits_in in
+        let new = IsSoundHeap-carved heap.segments heap.used heap.free others (heap.used ++ front ∷ []) run n pages free_pages kept (run_taken heap.free run once there itself) (pushed heap.used front) some fits_in in
         let whole : IsPartition (contents heap.segments (heap.used ++ front ∷ []) (others ++ back ∷ [])) = subst (λ ys. IsPartition (contents heap.segments (heap.used ++ front ∷ []) (others ++ ys))) (rest_is more) new.1.partition in
         let sized_free : All (λ (x : Run). 1 ≤ x.pages) others = All-filter (λ x. not (is_run run x)) (λ (x : Run). 1 ≤ x.pages) heap.free (counts_of heap kept.partition).free_sized in
         fresh_begins (contents heap.segments (heap.used ++ front ∷ []) (others ++ back ∷ [])) (heap.used ++ front ∷ []) others back whole (omega (arith, more)) (counts_of _ whole).used_sized sized_free
@@ -170,7 +170,7 @@ can_carve heap n slack pages free_pages run kept picked some =
 -- a span that is cut in two
 
 pub record CanCut (heap : Contents) (others : List Run) (span : Run) (n pages free_pages : ℕ) : Type 0 where
-  pub kept : IsKept (contents heap.segments (others ++ front_of span n ∷ [] ++ back_of span n ∷ []) heap.free) pages free_pages
+  pub kept : IsSoundHeap (contents heap.segments (others ++ front_of span n ∷ [] ++ back_of span n ∷ []) heap.free) pages free_pages
   pub lies : LiesWithin heap.segments (front_of span n)
   pub not_free : All (λ x. begins_at span.segment span.first x ≡ false) heap.free
   pub not_used : All (λ x. begins_at span.segment span.first x ≡ false) others
@@ -181,12 +181,12 @@ pub record CanCut (heap : Contents) (others : List Run) (span : Run) (n pages fr
   pub back_small : pages_of (others ++ front_of span n ∷ []) + (span.pages - n) < 2 ^ 32
   pub end : span.first + span.pages < 2 ^ 32
 
-pub can_cut : (heap : Contents) (others : List Run) (span : Run) (n pages free_pages : ℕ) → IsKept heap pages free_pages → Contains heap.used span → IsPermutation heap.used (span ∷ others)
+pub can_cut : (heap : Contents) (others : List Run) (span : Run) (n pages free_pages : ℕ) → IsSoundHeap heap pages free_pages → Contains heap.used span → IsPermutation heap.used (span ∷ others)
     → 1 ≤ n → n < span.pages → CanCut heap others span n pages free_pages
 can_cut heap others span n pages free_pages kept there taken some more =
     let front = front_of span n in
     let back = back_of span n in
-    let new = IsKept-cut heap.segments heap.used heap.free (others ++ front ∷ [] ++ back ∷ []) span n pages free_pages kept (cut_in_two heap.used others span front back taken) some more in
+    let new = IsSoundHeap-cut heap.segments heap.used heap.free (others ++ front ∷ [] ++ back ∷ []) span n pages free_pages kept (cut_in_two heap.used others span front back taken) some more in
     let H = contents heap.segments (others ++ front ∷ [] ++ back ∷ []) heap.free in
     let whole = new.partition in
     let sized : All (λ (x : Run). 1 ≤ x.pages) others = All-tail (λ (x : Run). 1 ≤ x.pages) span others (All-permutation (λ (x : Run). 1 ≤ x.pages) heap.used (span ∷ others) taken (counts_of heap kept.partition).used_sized) in
@@ -259,19 +259,19 @@ pub record CanFree (heap : Contents) (others : List Run) (span : Run) (pages fre
   pub begins : pages_before heap.free span ≤ span.first
   pub sized : 1 ≤ span.pages
   pub fits : pages_before heap.free span + span.pages + pages_behind heap.free span < 2 ^ 32
-  pub kept : IsKept (contents heap.segments others (freed heap.free span)) pages (free_pages + span.pages)
+  pub kept : IsSoundHeap (contents heap.segments others (freed heap.free span)) pages (free_pages + span.pages)
   pub lies : LiesWithin heap.segments (joined heap.free span)
   pub not_free : All (λ x. begins_at span.segment (span.first - pages_before heap.free span) x ≡ false) (filter (λ x. not (is_beside span x)) heap.free)
   pub not_used : All (λ x. begins_at span.segment (span.first - pages_before heap.free span) x ≡ false) others
   pub small : pages_of (filter (λ x. not (is_beside span x)) heap.free) + (pages_before heap.free span + span.pages + pages_behind heap.free span) < 2 ^ 32
   pub count : free_pages + span.pages < 2 ^ 32
 
-pub can_free : (heap : Contents) (others : List Run) (span : Run) (pages free_pages : ℕ) → IsKept heap pages free_pages → IsPermutation heap.used (span ∷ others)
+pub can_free : (heap : Contents) (others : List Run) (span : Run) (pages free_pages : ℕ) → IsSoundHeap heap pages free_pages → IsPermutation heap.used (span ∷ others)
     → CanFree heap others span pages free_pages
 can_free heap others span pages free_pages kept taken =
     let sized_all : All (λ (x : Run). 1 ≤ x.pages) (span ∷ others) = All-permutation (λ (x : Run). 1 ≤ x.pages) heap.used (span ∷ others) taken (counts_of heap kept.partition).used_sized in
     let sized : 1 ≤ span.pages = All-head (λ (x : Run). 1 ≤ x.pages) span others sized_all in
-    let new = IsKept-freed heap.segments heap.used heap.free others span pages free_pages kept taken in
+    let new = IsSoundHeap-freed heap.segments heap.used heap.free others span pages free_pages kept taken in
     let rest = filter (λ x. not (is_beside span x)) heap.free in
     let run = joined heap.free span in
     let H = contents heap.segments others (rest ++ run ∷ []) in

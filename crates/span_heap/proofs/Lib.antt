@@ -13,3 +13,4 @@ pub mod RowsTellAlike
 pub mod SegmentsJoinTheTable
 pub mod HeapOverTheTable
 pub mod SegmentsLeaveTheTable
+pub mod FrontGrows

@@ -1,16 +1,17 @@
 -- Each page tells which run begins or ends there, through each change.
 use Rattle.std.proofs.Common.{◌≡◌, ◌≢◌, ℕ, zero, suc, ◌+◌, ◌-◌, ◌^◌, ◌<◌, ◌≤◌, Bool, true, false, not, ◌&&◌, ◌||◌, cond, eqb, List, [], ◌∷◌, ◌++◌, length, map, get_or, set, Option, Some, None, refl, sym, ◌∙◌, ap, subst, arith, inl, inr, get_or-set_other, get_or-set_same, length-set}
-use Rattle.std.specs.List.{count_by, filter, position, list_any, All, Contains, sum_by}
+use Rattle.std.specs.List.{count_by, filter, list_any, All, Contains, sum_by}
 use Rattle.std.specs.List.Sorted.{IsPermutation}
 use Rattle.std.specs.Option.{is_some}
 use Rattle.std.proofs.Math.ListN.{get_or-map}
 use Rattle.std.proofs.lemmas.List.{get_or_default, get_or_past, map-append, length-map}
 use Rattle.std.proofs.lemmas.List.Folds.{list_any-from_Any}
-use Rattle.std.proofs.lemmas.List.Quantifiers.{position-Some}
 use Rattle.std.proofs.lemmas.List.Sums.{sum_by-cons, length-filter, sum_by_push, get_or-le-sum_by}
 use Rattle.std.proofs.lemmas.List.Sorted.{IsPermutation-map, IsPermutation-filter_both, IsPermutation-append_comm}
 use Rattle.std.proofs.lemmas.List.Elements.{All-filter, All-append, All-cons, All-nil, All-map, Contains-get_or, filter_passes}
 use Rattle.std.proofs.lemmas.Bool.{and_parts, and_from, ltb-true, lt-ltb, ltb-false, eqb-true, eq-eqb, cases_eq, cases_lt, cases_Bool, both_ways, ne_eqb, and_right}
+use Rattle.std.proofs.lemmas.Option.{slice_get_within, get_or_from_slice_get}
+use Rattle.units.specs.RowSearch.{FindsRow}
 use Rattle.free_lists.specs.Lists.{without}
 use Rattle.span_heap.specs.declared.run.Run.{Run}
 use Rattle.span_heap.specs.Run.{lies_in, begins_at, ends_at, is_run, pages_of}
@@ -22,7 +23,7 @@ use Rattle.span_heap.proofs.Sums.{sum_by-filter, filter_at_most_one, counted, co
 use Rattle.span_heap.proofs.PartitionByCounts.{sum_by-with}
 use Rattle.span_heap.proofs.SegmentsComeAndLeave.{sum_by-filter-le}
 use Rattle.span_heap.proofs.FreeingKeepsThePartition.{filter_none}
-use Rattle.span_heap.proofs.UsedPagesAreCounted.{one_place, position_finds}
+use Rattle.span_heap.proofs.UsedPagesAreCounted.{one_place}
 use Rattle.span_heap.proofs.PlacedRunsKeepTheirPlaces.{runs_removed, runs_stored, not_there, fewer, one_counted, once_more}
 
 -- rows
@@ -56,18 +57,10 @@ pub is_row_there : (rows : List Row) (id at : ℕ) → RowStands rows id at → 
 is_row_there rows id at stands =
     and_from (eqb (row_at rows at).id id) (has_pages (row_at rows at)) (eq-eqb (row_at rows at).id id stands.numbered) (wide_passes (row_at rows at) stands.live)
 
-pub row_stands : (rows : List Row) (id at : ℕ) → position (is_row id) rows ≡ Some at → RowStands rows id at
-row_stands rows id at found =
-    let there = position-Some (is_row id) rows at no_row found in
-    row_passes rows id at there.0 there.1
-
-pub row_found : (rows : List Row) (id : ℕ) (found : Option ℕ) → found ≡ position (is_row id) rows → IsRowOf rows id found
-row_found rows id None is =
-    elim (cases_Bool (list_any (is_row id) rows)) [
-      | inl there ↦ absurd (position_finds (is_row id) rows there (sym is))
-      | inr absent ↦ absent
-    ]
-row_found rows id (Some at) is = row_stands rows id at (sym is)
+pub row_found : (rows : List Row) (id : ℕ) (found : Option ℕ) → FindsRow (is_row id) rows found → IsRowOf rows id found
+row_found rows id None absent = absent
+row_found rows id (Some at) (row, stands, passes) =
+    row_passes rows id at (slice_get_within rows at row stands) (ap (is_row id) (get_or_from_slice_get rows at row no_row stands) ∙ passes)
 
 pub row_is : (rows : List Row) (at : ℕ) (row : Row) → at < length rows → row ≡ get_or rows at row → row ≡ row_at rows at
 row_is rows at row within is = is ∙ get_or_default rows at row no_row within

@@ -1,32 +1,15 @@
 -- A count of pages tells whether a segment has a run, and a test that one passes finds the one.
-use Rattle.std.proofs.Common.{◌≡◌, ◌≢◌, ℕ, zero, suc, ◌<◌, ◌≤◌, Bool, true, cond, eqb, List, [], ◌∷◌, length, ltb, Some, None, get_or, refl, sym, ◌∙◌, ap, arith, inl, inr}
-use Rattle.std.specs.List.{sum_by, count_by, position, position_or_len, list_any, All}
-use Rattle.std.proofs.lemmas.List.Sums.{sum_by-cons, get_or-le-sum_by, fails_before_first}
-use Rattle.std.proofs.lemmas.List.Folds.{Any-from_list_any}
+use Rattle.std.proofs.Common.{◌≡◌, ◌≢◌, ℕ, zero, suc, ◌<◌, ◌≤◌, Bool, true, cond, eqb, List, [], ◌∷◌, length, get_or, refl, sym, ap, arith}
+use Rattle.std.specs.List.{sum_by, count_by, All}
+use Rattle.std.proofs.lemmas.List.Sums.{sum_by-cons, get_or-le-sum_by}
 use Rattle.std.proofs.lemmas.List.Elements.{All-head, All-tail, Contains-get_or}
-use Rattle.std.proofs.lemmas.Bool.{eq-eqb, ne_eqb, cases_lt, lt-ltb, cond-true, both_ways}
+use Rattle.std.proofs.lemmas.Bool.{eq-eqb, ne_eqb}
 use Rattle.span_heap.specs.declared.run.Run.{Run}
 use Rattle.span_heap.specs.Segment.{pages_in}
 use Rattle.span_heap.specs.Changes.{NoneIn}
 use Rattle.span_heap.proofs.Sums.{counted}
 use Rattle.span_heap.proofs.PartitionByCounts.{one_if}
 use Rattle.span_heap.proofs.CountsAreKept.{pages_there, pages_in-is}
-
--- where an entry stands
-
--- what some element passes has a first place
-pub position_finds : {X : Type 0} (p : X → Bool) (xs : List X) → list_any p xs ≡ true → position p xs ≡ None → ⊥
-position_finds p xs present none =
-    let (k, x, within, is, passes) = Any-from_list_any p xs present in
-    elim (cases_lt (position_or_len p xs) (length xs)) [
-      | inl below ↦ some_is_not_none (position_or_len p xs) (sym (cond-true (ltb (position_or_len p xs) (length xs)) _ _ (lt-ltb _ _ below)) ∙ none)
-      | inr past ↦ both_ways (p (get_or xs k x)) (fails_before_first p xs k x (omega arith)) (rw is passes)
-    ]
-  where
-    some_is_not_none : (n : ℕ) → Some n ≡ None → ⊥
-    some_is_not_none n e = cc
-
--- what is seen of entries
 
 -- at most one element passes, so two that pass stand at one place
 pub one_place : {X : Type 0} (p : X → Bool) (xs : List X) (j k : ℕ) (d : X) → count_by p xs ≤ 1 → j < length xs → k < length xs → p (get_or xs j d) ≡ true → p (get_or xs k d) ≡ true → j ≡ k

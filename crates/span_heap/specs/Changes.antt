@@ -1,9 +1,10 @@
 -- What each call does to the lists of a heap.
-use Rattle.std.specs.Prelude.{◌≡◌, ◌≢◌, ℕ, not, IsFalse, IfSome, List, [], ◌∷◌, ◌++◌, All, Contains, Option, filter}
+use Rattle.std.specs.Prelude.{◌≡◌, ◌≢◌, ℕ, ◌+◌, not, if◌then◌else◌, IsFalse, IfSome, List, [], ◌∷◌, ◌++◌, All, Contains, Option, filter, count_by}
 use Rattle.std.specs.List.Sorted.{IsPermutation}
 use Rattle.std.specs.Option.{option_map}
 use Rattle.span_heap.specs.declared.run.Run.{Run}
-use Rattle.span_heap.specs.Runs.{front_of, carved, freed, dropped}
+use Rattle.span_heap.specs.Run.{has_page}
+use Rattle.span_heap.specs.Runs.{front_of, rest_of, carved, freed, dropped}
 use Rattle.span_heap.specs.Pick.{fits, pick}
 use Rattle.span_heap.specs.Segment.{Segment}
 use Rattle.span_heap.specs.Heap.{Contents, has_id}
@@ -28,6 +29,16 @@ pub record Grows (old new : Contents) (id n : ℕ) (span : Run) : Type 0 where
   pub has : Contains new.used span
   pub free : new.free ≡ old.free
   pub none_free : NoneIn id new.free
+
+-- A segment came last. Its first pages are a used span, the rest, if there is any, is the latest free run, and the used spans of other
+-- segments stay.
+pub record GrowsFront (old new : Contents) (id whole pages : ℕ) (span : Run) : Type 0 where
+  pub front : span ≡ front_of (whole_of id whole) pages
+  pub segments : new.segments ≡ old.segments ++ segment_of id whole ∷ []
+  pub has : Contains new.used span
+  pub keeps : (run : Run) → Contains old.used run → run.segment ≢ id → Contains new.used run
+  pub covers : (other page : ℕ) → count_by (has_page other page) new.used ≡ (if has_page other page span then 1 else 0) + count_by (has_page other page) old.used
+  pub free : new.free ≡ old.free ++ rest_of (whole_of id whole) pages
 
 -- what a search answers: the first n pages of the run that it picks
 abbrev pub found_span : List Run → ℕ → ℕ → Option Run

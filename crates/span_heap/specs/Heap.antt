@@ -46,7 +46,7 @@ pub record IsPartition (heap : Contents) : Type 0 where
   pub apart : (id page : ℕ) → count_by (begins_at id page) heap.free + count_by (ends_at id page) heap.free ≤ 1
 
 -- what a heap keeps beside the partition: its two counts of pages, and that they add up in each segment and in all
-pub record IsKept (heap : Contents) (pages free_pages : ℕ) : Type 0 where
+pub record IsSoundHeap (heap : Contents) (pages free_pages : ℕ) : Type 0 where
   pub partition : IsPartition heap
   pub small : pages < 2 ^ 32
   pub size : pages ≡ size_of heap.segments

@@ -4,7 +4,7 @@ ghost use Rattle.span_heap.specs.Run.{pages_of};
 ghost use Rattle.span_heap.specs.Runs.{front_of, back_of};
 ghost use Rattle.span_heap.specs.Segment.{pages_in};
 ghost use Rattle.span_heap.specs.Heap.{contents, IsPartition, has_segment, size_of};
-ghost use Rattle.span_heap.specs.Changes.{Grows, found_span, IsCarved, Uses, NoneFits, Splits, Frees, Drops, NoneIn};
+ghost use Rattle.span_heap.specs.Changes.{Grows, GrowsFront, found_span, IsCarved, Uses, NoneFits, Splits, Frees, Drops, NoneIn};
 
 use crate::run::{Run, Runs};
 use crate::span::Span;
@@ -24,7 +24,7 @@ use units::NoMemory;
 /// the row of its segment stood, and the row is looked for from there on. A `search` guesses the row by
 /// the first and the last number. From such a place it is found in steps that double and then by halves
 /// where the numbers of the segments rise in the order in which they came, and else by a walk.
-#[derive(Debug, Drop)]
+#[derive(Drop)]
 pub struct Heap {
     table: PageTable,
     pages: u32,
@@ -32,14 +32,14 @@ pub struct Heap {
 }
 
 impl Model for Heap {
-    ghost use Rattle.span_heap.specs.Heap.{Contents, IsKept};
+    ghost use Rattle.span_heap.specs.Heap.{Contents, IsSoundHeap};
 
     ghost Value = { Contents };
 
     ghost view = { λ h. h.table };
 
     // Both counts of pages are those of the lists.
-    ghost invariant = { λ h. IsKept h.table h.pages h.free_pages };
+    ghost invariant = { λ h. IsSoundHeap h.table h.pages h.free_pages };
 }
 
 impl Heap {
@@ -76,6 +76,35 @@ impl Heap {
         self.table.add_used(run, near);
         self.pages += pages;
         Ok(Span { run, near })
+    }
+
+    /// Adds a segment with its first `pages` pages as a used span and the rest free, and answers the
+    /// span. `NoMemory` leaves the heap as before.
+    ///
+    /// Conditions: no segment of the heap has this number, `pages` is from 1 to `whole`, `whole` is at
+    /// most 65,536, and all pages of the heap together stay below 2^32.
+    pub fn grow_front(
+        &mut self,
+        alloc: Global,
+        segment: u64,
+        whole: u32,
+        pages: u32,
+    ) -> Result<Span, NoMemory>
+        requires fresh { IsFalse (has_segment self.old.segments segment) }
+        requires sized { whole ≤ MOST_PAGES }
+        requires front { (1 ≤ pages) × (pages ≤ whole) }
+        requires small { size_of self.old.segments + whole < 2 ^ 32 }
+        ensures grown { IfOk result (GrowsFront self.old self.new segment whole pages) }
+        ensures same { OnErr result (self.new ≡ self.old) }
+        ensures partition { IsPartition self.new }
+    {
+        let span = self.grow(alloc, segment, whole)?;
+        if pages == whole {
+            return Ok(span);
+        }
+        let (front, rest) = self.split(span, pages);
+        self.free(rest);
+        Ok(front)
     }
 
     /// Takes a free run of at least `pages` pages and at most `slack` more, uses its first `pages`

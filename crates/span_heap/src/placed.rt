@@ -17,7 +17,7 @@ const FREE: u32 = 1;
 const USED: u32 = 2;
 
 /// Runs under places. A free run stands in the list of its length too.
-#[derive(Debug, Drop)]
+#[derive(Drop)]
 pub(crate) struct PlacedRuns {
     lists: Lists,
     /// How many places the lists have.

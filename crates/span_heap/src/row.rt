@@ -1,13 +1,14 @@
 //! A segment in the table of pages.
-ghost use Rattle.std.specs.Prelude.{◌≡◌, ◌+◌, ◌-◌, ◌*◌, [], ◌∷◌, ◌++◌, ◌^◌, ◌<◌, ◌≤◌, vec_len, vec_capacity, length, position, filter, slice_index_or, IsTrue, IfOk, OnOk};
+ghost use Rattle.std.specs.Prelude.{◌≡◌, ◌+◌, ◌-◌, ◌*◌, [], ◌∷◌, ◌++◌, ◌^◌, ◌<◌, ◌≤◌, vec_len, vec_capacity, length, filter, slice_index_or, IsTrue, IfOk, OnOk};
 ghost use Rattle.std.specs.List.{list_any};
 ghost use Rattle.span_heap.specs.Table.{has_pages, is_row, AreDropped, RowStands, IsRowOf, Widens, row_places};
 
 use std::alloc::{AllocError, Global};
 use std::marker::Model;
+use units::row_search::{self, NumberedRow};
 
 /// A segment, with the place of each of its pages. One without a page is a segment that was dropped.
-#[derive(Debug, Drop)]
+#[derive(Drop)]
 pub(crate) struct PageRow {
     id: u64,
     places: Vec<u32>,
@@ -23,6 +24,21 @@ impl Model for PageRow {
     ghost view = { λ r. record { id = r.id; places = r.places.items; used = r.used } };
 }
 
+impl NumberedRow for PageRow {
+    ghost use Rattle.span_heap.specs.Table.{is_row};
+
+    ghost is_of = { is_row };
+
+    fn number(&self) -> u64 {
+        self.id
+    }
+
+    /// Whether it has this number and was not dropped.
+    fn is_of(&self, number: u64) -> bool {
+        self.id == number && self.has_pages()
+    }
+}
+
 impl PageRow {
     /// A segment whose pages have these places. None of them is used.
     pub(crate) fn new(id: u64, places: Vec<u32>) -> PageRow
@@ -35,25 +51,11 @@ impl PageRow {
         }
     }
 
-    /// The number of the segment.
-    pub(crate) fn id(&self) -> u64
-        ensures { result ≡ self.now.id }
-    {
-        self.id
-    }
-
     /// Whether it has a page.
     pub(crate) fn has_pages(&self) -> bool
         ensures { result ≡ has_pages self.now }
     {
         !self.places.is_empty()
-    }
-
-    /// Whether it has this number and was not dropped.
-    pub(crate) fn is_of(&self, id: u64) -> bool
-        ensures { result ≡ is_row id self.now }
-    {
-        self.id == id && self.has_pages()
     }
 
     /// How many pages it has.
@@ -109,98 +111,12 @@ impl PageRow {
     }
 }
 
-/// Where the row of this number stands, if one is there that was not dropped. It is found at once
-/// where it stands at `near`, from there in steps that double and then by halves where the numbers
-/// rise, and else by a walk.
+/// Where the row of this number stands, if one is there that was not dropped. It is looked for from
+/// `near` on.
 pub(crate) fn find_row(rows: &[PageRow], id: u64, near: usize) -> Option<usize>
     ensures { IsRowOf rows.now id result }
 {
-    if near < rows.len() && rows[near].is_of(id) {
-        return Some(near);
-    }
-    let at = row_from(rows, id, near.min(rows.len()));
-    if at < rows.len() && rows[at].is_of(id) {
-        return Some(at);
-    }
-    first_row(rows, id)
-}
-
-/// A guess at where the row of this number stands: where it stands if the numbers rise evenly.
-pub(crate) fn guess_row(rows: &[PageRow], id: u64) -> usize {
-    let Some(first) = rows.first() else {
-        return 0;
-    };
-    let Some(last) = rows.last() else {
-        return 0;
-    };
-    let offset = id.saturating_sub(first.id());
-    let reach = last.id().saturating_sub(first.id());
-    let steps = rows.len().saturating_sub(1) as u64;
-    if reach <= steps {
-        return offset as usize;
-    }
-    (offset.saturating_mul(steps) / reach) as usize
-}
-
-/// Where the first row of this number stands that was not dropped, by a walk.
-fn first_row(rows: &[PageRow], id: u64) -> Option<usize>
-    ensures { result ≡ position (is_row id) rows.now }
-{
-    rows.iter().position(|row| row.is_of(id))
-}
-
-/// Whether there is a row at this index, and its number is below this one.
-fn is_below(rows: &[PageRow], at: usize, id: u64) -> bool {
-    at < rows.len() && rows[at].id() < id
-}
-
-/// Where the row of this number stands if the numbers rise. It is looked for from a guess on.
-fn row_from(rows: &[PageRow], id: u64, guess: usize) -> usize {
-    if is_below(rows, guess, id) {
-        return row_between(rows, id, guess, end_from(rows, id, guess));
-    }
-    row_between(rows, id, start_from(rows, id, guess), guess)
-}
-
-/// An index behind a guess that the row of this number does not stand behind, in steps that double.
-fn end_from(rows: &[PageRow], id: u64, guess: usize) -> usize {
-    let mut step: usize = 1;
-    for _ in 0..usize::BITS {
-        let at = guess.saturating_add(step);
-        if !is_below(rows, at, id) {
-            return at.min(rows.len());
-        }
-        step = step.saturating_mul(2);
-    }
-    rows.len()
-}
-
-/// An index before a guess that the row of this number does not stand before, in steps that double.
-fn start_from(rows: &[PageRow], id: u64, guess: usize) -> usize {
-    let mut step: usize = 1;
-    for _ in 0..usize::BITS {
-        let at = guess.saturating_sub(step);
-        if at == 0 || is_below(rows, at, id) {
-            return at;
-        }
-        step = step.saturating_mul(2);
-    }
-    0
-}
-
-/// Where the row of this number stands between two indices if the numbers rise, by halves.
-fn row_between(rows: &[PageRow], id: u64, start: usize, end: usize) -> usize {
-    let mut low = start;
-    let mut high = end;
-    while low < high {
-        let middle = low + (high - low) / 2;
-        if is_below(rows, middle, id) {
-            low = middle + 1;
-        } else {
-            high = middle;
-        }
-    }
-    low
+    row_search::find_row(rows, id, near)
 }
 
 /// Where the row of this number stands.
@@ -221,7 +137,8 @@ pub(crate) fn push_row(rows: &mut Vec<PageRow>, dropped: &mut usize, row: PageRo
     requires live { 1 ≤ length row.places }
     requires counted { AreDropped rows.old.items dropped.old }
     ensures counted { AreDropped rows.new.items dropped.new }
-    ensures living { filter has_pages rows.new.items ≡ filter has_pages (rows.old.items ++ row ∷ []) }
+    ensures living { filter has_pages rows.new.items
+        ≡ filter has_pages (rows.old.items ++ row ∷ []) }
     ensures few { 2 * dropped.new ≤ length rows.new.items }
 {
     rows.push_reserved(row);

@@ -67,7 +67,7 @@ impl Run {
 }
 
 /// The free runs of a heap as they were at one moment, the oldest first.
-#[derive(Debug, Drop)]
+#[derive(Drop)]
 pub struct Runs {
     pub(crate) runs: Vec<Run>,
 }

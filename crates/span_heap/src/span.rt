@@ -5,7 +5,7 @@ use std::marker::Model;
 
 /// Neighbouring pages of one segment that are in use. Only a heap makes one, and it has no copy.
 #[must_use = "a span that is let go stays used"]
-#[derive(Debug, Drop)]
+#[derive(Drop)]
 pub struct Span {
     pub(crate) run: Run,
     /// Where the row of its segment stood in the table. Rows move up when those of dropped segments

@@ -10,14 +10,15 @@ ghost use Rattle.span_heap.specs.Table.{AreSized, BeginFrom, CanCome, IsEmptied,
 ghost use Rattle.span_heap.specs.Table.{NoneBegins, OneBefore, OneBehind, page_of, without_before, without_behind};
 
 use crate::placed::PlacedRuns;
-use crate::row::{PageRow, find_row, guess_row, new_places, push_row, row_of, widen_all};
+use crate::row::{PageRow, find_row, new_places, push_row, row_of, widen_all};
 use crate::run::Run;
 use std::alloc::Global;
 use std::marker::Model;
 use units::NoMemory;
+use units::row_search::guess_place;
 
 /// Segments with their used spans and free runs, each of which is found by its first or last page.
-#[derive(Debug, Drop)]
+#[derive(Drop)]
 pub(crate) struct PageTable {
     /// In the order in which they came. The row of a segment that was dropped stands on without a
     /// page, so that no other moves, until `grow` takes such rows out.
@@ -103,7 +104,7 @@ impl PageTable {
     /// first; whatever it is, they do the same.
     pub(crate) fn near(&self, id: u64) -> usize {
         let rows = self.rows.as_slice();
-        match find_row(rows, id, guess_row(rows, id)) {
+        match find_row(rows, id, guess_place(rows, id)) {
             Some(at) => at,
             None => 0,
         }
@@ -385,7 +386,7 @@ impl PageTable {
         ensures { result ≡ has_segment self.now.segments id }
     {
         let rows = self.rows.as_slice();
-        find_row(rows, id, guess_row(rows, id)).is_some()
+        find_row(rows, id, guess_place(rows, id)).is_some()
     }
 
     /// How many pages of a segment are used.

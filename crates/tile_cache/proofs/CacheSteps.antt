@@ -13,7 +13,8 @@ use Rattle.span_heap.specs.declared.run.Run.{Run}
 use Rattle.span_heap.specs.Run.{has_page}
 use Rattle.client.specs.Seen.{Seen, is_gone}
 use Rattle.client.specs.Pieces.{Part, Owns, OthersStay, UnlocksPiece, LocksPiece, AreApart, WritesPiece, part_after_lock, bytes_of}
-use Rattle.client.specs.Sizes.{pages_for, wanted}
+use Rattle.units.specs.Sizes.{pages_for}
+use Rattle.client.specs.Sizes.{wanted}
 use Rattle.client.specs.Granting.{Session, Allocates, AllocatesCounted, granted_pages}
 use Rattle.units.specs.declared.TheConstants.{MOST_PAGES}
 use Rattle.std.proofs.lemmas.Option.{same_Some}
@@ -21,8 +22,8 @@ use Rattle.std.specs.Prelude.{nat_lt}
 use Rattle.client.specs.Calls.{KeepsName, UnlocksRun, LocksPart, AfterFree}
 use Rattle.client.specs.declared.answers.Unlocked.{Unlocked}
 use Rattle.tile_cache.specs.Recent.{is_same, has_tile, without}
-use Rattle.tile_cache.specs.Cached.{Cached, AreOwned, AreFree, HaveTiles, HasBytes, IsUsedWith, ShareNoPage, runs_of, tiles_of}
-use Rattle.tile_cache.specs.Kept.{IsKept}
+use Rattle.tile_cache.specs.Cached.{Cached, OwnsEntries, AreFree, HaveTiles, HasBytes, IsUsedWith, ShareNoPage, runs_of, tiles_of}
+use Rattle.tile_cache.specs.Sound.{IsSoundCache}
 use Rattle.tile_cache.specs.Bound.{IsFresh}
 use Rattle.tile_cache.specs.Accounts.{SameSegments, IsAccounted, Fits, makes_of, over_segments}
 use Rattle.units.specs.Count.{next_count}
@@ -45,9 +46,9 @@ module _ {G : Type 0} where
   abbrev pub with_entries : Cached G → Seen → List Entry → Cached G
   with_entries old client entries = record old { session = record old.session { client = client }; entries = entries }
 
-  pub kept_with : (old : Cached G) (room : ℕ) (client : Seen) (entries : List Entry) → IsKept old room → SameSegments old.session.client client → AreAmong (runs_of entries) (runs_of old.entries) → AreOwned client entries
+  pub kept_with : (old : Cached G) (room : ℕ) (client : Seen) (entries : List Entry) → IsSoundCache old room → SameSegments old.session.client client → AreAmong (runs_of entries) (runs_of old.entries) → OwnsEntries client entries
       → All (λ (run : Run). run.pages ≡ pages_for old.tile_bytes) (runs_of entries) → All (λ (tile : Tile). has_tile old.shown tile ≡ true) (keys_of entries)
-      → (old.entries ≡ [] → entries ≡ []) → IsKept (with_entries old client entries) room
+      → (old.entries ≡ [] → entries ≡ []) → IsSoundCache (with_entries old client entries) room
   kept_with old room client entries kept same among owned sized shown none = record {
     entries = owned;
     sized = sized;
@@ -118,10 +119,10 @@ unlocked_tiles tile_of old new count tile piece others gone unlocks stay tiles =
     (tiles_stay tile_of old new count others stay (All-tail (λ (e : Entry). HasBytes old count (tile_of e.0) e.1) (tile, piece) others tiles))
 
 module _ {G : Type 0} (old : Cached G) (room : ℕ) (tile : Tile) (piece : Part) (others : List Entry) (client : Seen) (now : ℕ) (told : Unlocked) where
-  pub unlocked_first : IsKept old room → old.entries ≡ (tile, piece) ∷ others → UnlocksRun piece.run now told old.session.client client → UnlocksPiece piece old.session.client client
-      → Rests now old (with_entries old client ((tile, record piece { locked = false }) ∷ others)) × IsKept (with_entries old client ((tile, record piece { locked = false }) ∷ others)) room
+  pub unlocked_first : IsSoundCache old room → old.entries ≡ (tile, piece) ∷ others → UnlocksRun piece.run now told old.session.client client → UnlocksPiece piece old.session.client client
+      → Rests now old (with_entries old client ((tile, record piece { locked = false }) ∷ others)) × IsSoundCache (with_entries old client ((tile, record piece { locked = false }) ∷ others)) room
   unlocked_first kept is run unlocks =
-      let owned : AreOwned old.session.client ((tile, piece) ∷ others) = rw is at kept.entries in
+      let owned : OwnsEntries old.session.client ((tile, piece) ∷ others) = rw is at kept.entries in
       let free : AreFree others = owned.free in
       let rest = owned_rest old.session.client tile piece others owned free in
       let stay = others_stay old.session.client client piece.run others unlocks.stay rest.owned (first_differs old.session.client tile piece others owned) in
@@ -163,14 +164,14 @@ module _ {G : Type 0} (old : Cached G) (room : ℕ) (tile : Tile) (e : Entry) (c
   abbrev pub others_found : List Entry
   others_found = remove_entry (is_same tile) old.entries
 
-  pub locked_found : IsKept old room → AreFree old.entries → StandsOnce tile (tiles_of old) → length old.entries ≤ old.most → lookup_entry (is_same tile) old.entries ≡ Some e
+  pub locked_found : IsSoundCache old room → AreFree old.entries → StandsOnce tile (tiles_of old) → length old.entries ≤ old.most → lookup_entry (is_same tile) old.entries ≡ Some e
       → LocksPart e.1 told old.session.client client → LocksPiece told e.1 old.session.client client
-      → LocksEntry tile told old (with_entries old client ((e.0, part_after_lock told e.1) ∷ others_found)) × IsKept (with_entries old client ((e.0, part_after_lock told e.1) ∷ others_found)) room
+      → LocksEntry tile told old (with_entries old client ((e.0, part_after_lock told e.1) ∷ others_found)) × IsSoundCache (with_entries old client ((e.0, part_after_lock told e.1) ∷ others_found)) room
   locked_found kept free once few found locks leaves =
       let key : e.0 ≡ tile = found_key tile old.entries e found in
       let value = found_value (is_same tile) old.entries e found in
       let front = owned_found old.session.client (is_same tile) old.entries e found free kept.entries in
-      let owned : AreOwned old.session.client ((e.0, e.1) ∷ others_found) = front.0 in
+      let owned : OwnsEntries old.session.client ((e.0, e.1) ∷ others_found) = front.0 in
       let rest = owned_rest old.session.client e.0 e.1 others_found owned front.1 in
       let stay = others_stay old.session.client client e.1.run others_found leaves.stay rest.owned (first_differs old.session.client e.0 e.1 others_found owned) in
       let goes = goes_locked e.1 told old.session.client client locks in
@@ -229,7 +230,7 @@ last_all P [] x all = All-head P x [] all
 last_all P (y ∷ xs) x all = last_all P xs x (All-tail P y (xs ++ x ∷ []) all)
 
 -- all but the last of owned entries
-pub owned_front : (client : Seen) (others : List Entry) (last : Entry) → AreFree (others ++ last ∷ []) → AreOwned client (others ++ last ∷ []) → AreOwned client others × AreOthers last.1.run others
+pub owned_front : (client : Seen) (others : List Entry) (last : Entry) → AreFree (others ++ last ∷ []) → OwnsEntries client (others ++ last ∷ []) → OwnsEntries client others × AreOthers last.1.run others
 owned_front client others last free owned =
     let runs : runs_of (others ++ last ∷ []) ≡ runs_of others ++ last.1.run ∷ [] = map-append (λ (e : Entry). e.1.run) others (last ∷ []) in
     let some = rw runs at owned.some in
@@ -251,16 +252,16 @@ owned_front client others last free owned =
     )
 
 -- owned entries after another piece was freed
-pub owned_freed : (told : Bool) (piece : Part) (now : ℕ) (old new : Seen) (entries : List Entry) → AreOwned old entries → AreOthers piece.run entries → OthersStay piece.run old new → AreOwned new entries × EntriesStay old new entries
+pub owned_freed : (told : Bool) (piece : Part) (now : ℕ) (old new : Seen) (entries : List Entry) → OwnsEntries old entries → AreOthers piece.run entries → OthersStay piece.run old new → OwnsEntries new entries × EntriesStay old new entries
 owned_freed told piece now old new entries owned differ stays =
     let stay = others_stay old new piece.run entries stays owned.owned differ in
     (record { owned = owned_stay old new entries stay; free = owned.free; some = owned.some; once = owned.once }, stay)
 
 -- the last entry left
 module _ {G : Type 0} (old : Cached G) (room : ℕ) (gone : Entry) (others : List Entry) (client : Seen) (told : Bool) (now : ℕ) where
-  pub left_last : IsKept old room → AreFree old.entries → old.entries ≡ others ++ gone ∷ [] → others ≡ take (old.most - 1) old.entries
+  pub left_last : IsSoundCache old room → AreFree old.entries → old.entries ≡ others ++ gone ∷ [] → others ≡ take (old.most - 1) old.entries
       → AfterFree told gone.1 now old.session.client client → OthersStay gone.1.run old.session.client client
-      → MakesRoom now old (with_entries old client others) × IsKept (with_entries old client others) room
+      → MakesRoom now old (with_entries old client others) × IsSoundCache (with_entries old client others) room
   left_last kept free is front frees stays =
       let parts = owned_front old.session.client others gone (rw is at free) (rw is at kept.entries) in
       let freed = owned_freed told gone.1 now old.session.client client others parts.0 parts.1 stays in
@@ -308,7 +309,7 @@ left_none now old room = record {
 }
 
 -- the first entry left, where it is lost
-pub cleared : {G : Type 0} (now : ℕ) (told : Bool) (tile : Tile) (piece : Part) (others : List Entry) (old new : Session G) → AreOwned old.client ((tile, piece) ∷ others) → AreFree others
+pub cleared : {G : Type 0} (now : ℕ) (told : Bool) (tile : Tile) (piece : Part) (others : List Entry) (old new : Session G) → OwnsEntries old.client ((tile, piece) ∷ others) → AreFree others
     → AfterFree told piece now old.client new.client → OthersStay piece.run old.client new.client → new ≡ record old { client = new.client } → Clears Rebuilt old new ((tile, piece) ∷ others) others
 cleared now told tile piece others old new owned free frees stays same =
     let freed = owned_freed told piece now old.client new.client others (owned_rest old.client tile piece others owned free) (first_differs old.client tile piece others owned) stays in
@@ -325,10 +326,10 @@ cleared now told tile piece others old new owned free frees stays same =
     }
 
 -- nothing left
-stays_same : (client : Seen) (entries : List Entry) → AreOwned client entries → EntriesStay client client entries
+stays_same : (client : Seen) (entries : List Entry) → OwnsEntries client entries → EntriesStay client client entries
 stays_same client entries owned = λ k d within. record { owned = owned.owned k d within; gone = λ is. is; bytes = λ there. refl }
 
-pub cleared_none : {G : Type 0} (told : Shown) (session : Session G) (entries : List Entry) → (told ≡ Rebuilt → ⊥) → AreOwned session.client entries → Clears told session session entries entries
+pub cleared_none : {G : Type 0} (told : Shown) (session : Session G) (entries : List Entry) → (told ≡ Rebuilt → ⊥) → OwnsEntries session.client entries → Clears told session session entries entries
 cleared_none told session entries differ owned =
     let same : others_of told entries ≡ entries = others_same told differ in
     record {
@@ -358,7 +359,7 @@ wanted_is size pages is = go (nat_lt MOST_PAGES (pages_for size)) is
         let same : pages_for size ≡ pages = same_Some _ _ is in
         (sym same, rw (← same) (omega arith))
 
-module _ {G : Type 0} (old : Cached G) (room size : ℕ) (told : Shown) (between : Session G) (entries : List Entry) (kept : IsKept old room) (sized : (old.tile_bytes ≡ 0) ⊎ (old.tile_bytes ≡ size)) (clears : Clears told old.session between old.entries entries) where
+module _ {G : Type 0} (old : Cached G) (room size : ℕ) (told : Shown) (between : Session G) (entries : List Entry) (kept : IsSoundCache old room) (sized : (old.tile_bytes ≡ 0) ⊎ (old.tile_bytes ≡ size)) (clears : Clears told old.session between old.entries entries) where
   abbrev pub others : List Entry
   others = others_of told old.entries
 
@@ -430,7 +431,7 @@ module _ {G : Type 0} (old : Cached G) (room size : ℕ) (told : Shown) (between
     cache_none = record old { session = session; entries = entries_now; shown = shown; tile_bytes = size; failed = true }
 
     pub came_none : 1 ≤ size → ComesNone size between session entries entries_now old.shown shown
-        → (AddsNone told size old cache_none × ((tile_of : Tile → List ℕ) → IsUsedWith tile_of size old → IsUsedWith tile_of size cache_none)) × IsKept cache_none room
+        → (AddsNone told size old cache_none × ((tile_of : Tile → List ℕ) → IsUsedWith tile_of size old → IsUsedWith tile_of size cache_none)) × IsSoundCache cache_none room
     came_none some none =
         let is : entries_now ≡ others = none.entries ∙ clears.entries in
         let stay : EntriesStay between.client session.client others = rw clears.entries at none.stay in
@@ -518,7 +519,7 @@ module _ {G : Type 0} (old : Cached G) (room size : ℕ) (told : Shown) (between
     cache_one = record old { session = session; entries = entries_now; shown = shown; counts = counted told old.counts; tile_bytes = size }
 
     pub came_one : (tile : Tile) → 1 ≤ size → AreFree old.entries → (told ≢ Kept) → (told ≡ Rebuilt → IsLost tile old) → Comes tile size between session entries entries_now old.shown shown
-        → (Adds told tile size old cache_one × KeepsBytes size old cache_one) × IsKept cache_one room
+        → (Adds told tile size old cache_one × KeepsBytes size old cache_one) × IsSoundCache cache_one room
     came_one tile some free made lost comes =
         let is : entries_now ≡ (tile, comes.piece) ∷ others = comes.entries ∙ ap (λ es. (tile, comes.piece) ∷ es) clears.entries in
         let wants = wanted_is size comes.pages comes.wants in
@@ -597,12 +598,12 @@ module _ {G : Type 0} (old : Cached G) (room : ℕ) (tile : Tile) (piece : Part)
   abbrev pub with_bytes_of : Cached G
   with_bytes_of = record old { session = record old.session { client = client } }
 
-  pub filled : IsKept old room → old.entries ≡ (tile, piece) ∷ others → piece.locked ≡ true → WritesPiece piece w old.session.client client
+  pub filled : IsSoundCache old room → old.entries ≡ (tile, piece) ∷ others → piece.locked ≡ true → WritesPiece piece w old.session.client client
       → client.gone ≡ old.session.client.gone → client.heap ≡ old.session.client.heap → KeepsName old.session.client client → SameSegments old.session.client client
       → take old.tile_bytes w ≡ tile_of tile → HaveTiles tile_of old.session.client old.tile_bytes (drop 1 old.entries)
-      → (Lent tile (tile_of tile) with_bytes_of × IsUsedWith tile_of old.tile_bytes with_bytes_of) × (Writes old with_bytes_of × IsKept with_bytes_of room)
+      → (Lent tile (tile_of tile) with_bytes_of × IsUsedWith tile_of old.tile_bytes with_bytes_of) × (Writes old with_bytes_of × IsSoundCache with_bytes_of room)
   filled kept is locked writes gone heap name segments front tiles =
-      let owned : AreOwned old.session.client ((tile, piece) ∷ others) = rw is at kept.entries in
+      let owned : OwnsEntries old.session.client ((tile, piece) ∷ others) = rw is at kept.entries in
       let rest = owned_rest old.session.client tile piece others owned owned.free in
       let stay = others_stay old.session.client client piece.run others writes.stay rest.owned (first_differs old.session.client tile piece others owned) in
       let again = owned_again old.session.client client tile piece piece others owned refl writes.owned stay in
@@ -632,7 +633,7 @@ module _ {G : Type 0} (old : Cached G) (room : ℕ) (tile : Tile) (piece : Part)
       )
 
 -- a get that was kept is counted
-pub kept_counted : {G : Type 0} (old : Cached G) (room : ℕ) → IsKept old room → IsKept (record old { counts = counted Kept old.counts }) room
+pub kept_counted : {G : Type 0} (old : Cached G) (room : ℕ) → IsSoundCache old room → IsSoundCache (record old { counts = counted Kept old.counts }) room
 kept_counted old room kept = record {
   entries = kept.entries;
   sized = kept.sized;
@@ -647,7 +648,7 @@ kept_counted old room kept = record {
 
 -- a cache as it is made
 pub kept_new : {G : Type 0} (session start : Session G) (entries : List Entry) (most room : ℕ) (shown : List Tile) (counts : Counts) → start ≡ session → entries ≡ [] → counts ≡ no_counts → room ≡ most → 1 ≤ most
-    → IsKept (record { session = session; start = start; entries = entries; most = most; shown = shown; counts = counts; tile_bytes = 0; failed = false }) room
+    → IsSoundCache (record { session = session; start = start; entries = entries; most = most; shown = shown; counts = counts; tile_bytes = 0; failed = false }) room
 kept_new session start entries most room shown counts same none unmade size some =
     rw (same, none, unmade) (record {
       entries = record {

@@ -13,7 +13,7 @@ use Rattle.client.specs.Seen.{Seen}
 use Rattle.client.specs.Pieces.{Part, AllStay, OthersStay, IsNew, AreApart}
 use Rattle.client.specs.Calls.{KeepsName, AfterFree}
 use Rattle.client.specs.Granting.{Session, Misses, IsTooLarge, IsOutOfMemory}
-use Rattle.tile_cache.specs.Cached.{AreOwned}
+use Rattle.tile_cache.specs.Cached.{OwnsEntries}
 use Rattle.tile_cache.specs.Coming.{EntriesStay, GoneStay}
 use Rattle.tile_cache.proofs.ClientSteps.{same_name, name_on, name_found, still_gone}
 use Rattle.tile_cache.proofs.EntriesReordered.{Entry}
@@ -37,7 +37,7 @@ other_run piece part some apart = λ same.
     both_ways _ (apart piece.run.segment piece.run.first) (rw (same, here) refl)
 
 -- a piece came and was freed again
-pub stay_freed : (told : Bool) (pages now : ℕ) (piece : Part) (old between new : Seen) (entries : List Entry) → AreOwned old entries → 1 ≤ pages → IsNew pages old between piece → AllStay old between
+pub stay_freed : (told : Bool) (pages now : ℕ) (piece : Part) (old between new : Seen) (entries : List Entry) → OwnsEntries old entries → 1 ≤ pages → IsNew pages old between piece → AllStay old between
     → AfterFree told piece now between new → OthersStay piece.run between new → EntriesStay old new entries
 stay_freed told pages now piece old between new entries owned some fresh stay frees stays = λ k d within.
     let first = all_stay old between entries stay owned.owned k d within in

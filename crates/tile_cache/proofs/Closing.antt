@@ -5,10 +5,10 @@ use Rattle.std.specs.Map.{keys_of}
 use Rattle.std.proofs.lemmas.List.Elements.{All-nil}
 use Rattle.span_heap.specs.declared.run.Run.{Run}
 use Rattle.client.specs.Gone.{Includes}
-use Rattle.client.specs.Sizes.{pages_for}
+use Rattle.units.specs.Sizes.{pages_for}
 use Rattle.client.specs.Granting.{LAST_COUNT}
 use Rattle.tile_cache.specs.Cached.{Cached, runs_of}
-use Rattle.tile_cache.specs.Kept.{IsKept}
+use Rattle.tile_cache.specs.Sound.{IsSoundCache}
 use Rattle.tile_cache.specs.Ended.{Ended, Closes}
 use Rattle.tile_cache.specs.Bound.{EndsBounded}
 use Rattle.tile_cache.specs.Accounts.{makes_of, over_segments}
@@ -24,7 +24,7 @@ length_keys : (entries : List Entry) → length (keys_of entries) ≡ length ent
 length_keys [] = refl
 length_keys (e ∷ entries) = ap suc (length_keys entries)
 
-pub ends_bounded : {G : Type 0} (cache : Cached G) (room : ℕ) (end : Ended) → IsKept cache room → Closes cache end → Includes cache.session.client.gone end.client.gone → length cache.entries ≤ LAST_COUNT → EndsBounded cache end
+pub ends_bounded : {G : Type 0} (cache : Cached G) (room : ℕ) (end : Ended) → IsSoundCache cache room → Closes cache end → Includes cache.session.client.gone end.client.gone → length cache.entries ≤ LAST_COUNT → EndsBounded cache end
 ends_bounded cache room end kept closes includes few fresh all size sized =
     let is = kept.accounts fresh all size sized in
     let some : 1 ≤ pages_for size = omega arith in

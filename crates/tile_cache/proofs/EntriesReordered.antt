@@ -12,7 +12,7 @@ use Rattle.span_heap.specs.Run.{has_page}
 use Rattle.client.specs.Seen.{Seen}
 use Rattle.client.specs.Pieces.{Part, Owns}
 use Rattle.tile_cache.specs.Recent.{is_same, has_tile, without}
-use Rattle.tile_cache.specs.Cached.{AreOwned, AreFree, ShareNoPage, runs_of}
+use Rattle.tile_cache.specs.Cached.{OwnsEntries, AreFree, ShareNoPage, runs_of}
 use Rattle.tile_cache.proofs.TilesAskedLast.{StandsOnce, same_is, without_absent}
 
 abbrev pub Entry : Type 0
@@ -80,8 +80,8 @@ free_tail [] free = free
 free_tail (e ∷ es) free = All-tail (λ (e : Entry). e.1.locked ≡ false) e es free
 
 -- owned entries of which none is locked, with one of them in front
-pub owned_found : (client : Seen) (test : Tile → Bool) (es : List Entry) (e : Entry) → lookup_entry test es ≡ Some e → AreFree es → AreOwned client es
-    → AreOwned client (e ∷ remove_entry test es) × AreFree (remove_entry test es)
+pub owned_found : (client : Seen) (test : Tile → Bool) (es : List Entry) (e : Entry) → lookup_entry test es ≡ Some e → AreFree es → OwnsEntries client es
+    → OwnsEntries client (e ∷ remove_entry test es) × AreFree (remove_entry test es)
 owned_found client test es e found free owned =
     let rest = All-tail (λ (e : Entry). e.1.locked ≡ false) e (remove_entry test es) (all_found (λ (e : Entry). e.1.locked ≡ false) test es e found free) in (
       record {

@@ -10,7 +10,7 @@ use Rattle.span_heap.specs.Run.{has_page}
 use Rattle.client.specs.Seen.{Seen, is_gone}
 use Rattle.client.specs.Pieces.{Part, Owns, Stays, AllStay, OthersStay, AreApart}
 use Rattle.tile_cache.specs.Coming.{EntriesStay}
-use Rattle.tile_cache.specs.Cached.{AreOwned, AreFree, HaveTiles, HasBytes, ShareNoPage, runs_of}
+use Rattle.tile_cache.specs.Cached.{OwnsEntries, AreFree, HaveTiles, HasBytes, ShareNoPage, runs_of}
 
 pub not_gone_before : (old new : Seen) (part : Part) → Stays old new part → is_gone new part.run.segment ≡ false → is_gone old part.run.segment ≡ false
 not_gone_before old new part stays there = false_from_ne_true _ (λ gone. both_ways _ there (stays.gone gone))
@@ -62,7 +62,7 @@ others_differ first entries some once = λ k d within same.
     )
 
 -- the others of owned entries, and what is known of the first
-pub owned_rest : (client : Seen) (tile : Tile) (piece : Part) (entries : List (Tile × Part)) → AreOwned client ((tile, piece) ∷ entries) → AreFree entries → AreOwned client entries
+pub owned_rest : (client : Seen) (tile : Tile) (piece : Part) (entries : List (Tile × Part)) → OwnsEntries client ((tile, piece) ∷ entries) → AreFree entries → OwnsEntries client entries
 owned_rest client tile piece entries owned free = record {
   owned = All-tail (λ (e : Tile × Part). Owns client e.1) (tile, piece) entries owned.owned;
   free = rest entries free;
@@ -74,12 +74,12 @@ owned_rest client tile piece entries owned free = record {
     rest [] free = free
     rest (e ∷ es) free = All-tail (λ (e : Tile × Part). e.1.locked ≡ false) e es free
 
-pub first_differs : (client : Seen) (tile : Tile) (piece : Part) (entries : List (Tile × Part)) → AreOwned client ((tile, piece) ∷ entries) → AreOthers piece.run entries
+pub first_differs : (client : Seen) (tile : Tile) (piece : Part) (entries : List (Tile × Part)) → OwnsEntries client ((tile, piece) ∷ entries) → AreOthers piece.run entries
 first_differs client tile piece entries owned =
     others_differ piece.run entries (All-head (λ (run : Run). 1 ≤ run.pages) piece.run (runs_of entries) owned.some) owned.once
 
 -- a first entry with the run of another, whose others stay
-pub owned_again : (old new : Seen) (tile : Tile) (was is : Part) (entries : List (Tile × Part)) → AreOwned old ((tile, was) ∷ entries) → is.run ≡ was.run → Owns new is → EntriesStay old new entries → AreOwned new ((tile, is) ∷ entries)
+pub owned_again : (old new : Seen) (tile : Tile) (was is : Part) (entries : List (Tile × Part)) → OwnsEntries old ((tile, was) ∷ entries) → is.run ≡ was.run → Owns new is → EntriesStay old new entries → OwnsEntries new ((tile, is) ∷ entries)
 owned_again old new tile was is entries owned same now stay = record {
   owned = All-cons (λ (e : Tile × Part). Owns new e.1) (tile, is) entries now (owned_stay old new entries stay);
   free = owned.free;

@@ -10,7 +10,7 @@ use Rattle.segment.specs.declared.owner.Lock.TheVariants as lock
 use Rattle.span_heap.specs.Heap.{size_of}
 use Rattle.client.specs.Seen.{is_gone}
 use Rattle.client.specs.Pieces.{Part, part_after_lock}
-use Rattle.client.specs.Sizes.{pages_for}
+use Rattle.units.specs.Sizes.{pages_for}
 use Rattle.client.specs.Calls.{KeepsName}
 use Rattle.client.specs.Granting.{granted_pages}
 use Rattle.tile_cache.specs.declared.counts.Shown.{Shown}

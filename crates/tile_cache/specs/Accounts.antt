@@ -4,7 +4,7 @@ use Rattle.segment.specs.Owned.{Owned}
 use Rattle.span_heap.specs.declared.run.Run.{Run}
 use Rattle.client.specs.Lease.{Lease}
 use Rattle.client.specs.Seen.{Seen, is_gone}
-use Rattle.client.specs.Sizes.{pages_for}
+use Rattle.units.specs.Sizes.{pages_for}
 use Rattle.client.specs.Granting.{LAST_COUNT}
 use Rattle.tile_cache.specs.declared.counts.Counts.{Counts}
 use Rattle.tile_cache.specs.Cached.{Cached, ShareNoPage, runs_of}

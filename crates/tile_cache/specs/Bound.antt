@@ -1,7 +1,7 @@
 -- How many tiles a cache lost, keeps and made, by the segments that its client was granted.
 use Rattle.std.specs.Prelude.{◌≡◌, ◌⊎◌, ℕ, ◌+◌, ◌*◌, ◌/◌, ◌≤◌, max, sum_by, false, List, [], length}
 use Rattle.segment.specs.Owned.{Owned}
-use Rattle.client.specs.Sizes.{pages_for}
+use Rattle.units.specs.Sizes.{pages_for}
 use Rattle.client.specs.Granting.{Session}
 use Rattle.tile_cache.specs.Cached.{Cached}
 use Rattle.tile_cache.specs.Ended.{Ended}

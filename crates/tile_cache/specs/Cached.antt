@@ -52,7 +52,7 @@ abbrev pub AreFree : List (Tile × Part) → Type 0
 AreFree entries = All (λ (e : Tile × Part). e.1.locked ≡ false) entries
 
 -- the client owns each piece, all but the first are free, each has a page, and no page is in two of them
-pub record AreOwned (client : Seen) (entries : List (Tile × Part)) : Type 0 where
+pub record OwnsEntries (client : Seen) (entries : List (Tile × Part)) : Type 0 where
   pub owned : All (λ (e : Tile × Part). Owns client e.1) entries
   pub free : AreFree (drop 1 entries)
   pub some : All (λ (run : Run). 1 ≤ run.pages) (runs_of entries)

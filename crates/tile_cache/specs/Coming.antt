@@ -4,12 +4,13 @@ use Rattle.span_heap.specs.Heap.{size_of}
 use Rattle.tile_source.specs.declared.tile.Tile.{Tile}
 use Rattle.client.specs.Seen.{Seen, is_gone}
 use Rattle.client.specs.Pieces.{Part, AllStay, IsNew, Stays}
-use Rattle.client.specs.Sizes.{wanted, pages_for}
+use Rattle.units.specs.Sizes.{pages_for}
+use Rattle.client.specs.Sizes.{wanted}
 use Rattle.client.specs.Calls.{KeepsName}
 use Rattle.client.specs.Granting.{Session, AllocatesCounted, granted_pages}
 use Rattle.tile_cache.specs.declared.counts.Shown.{Shown}
 use Rattle.tile_cache.specs.Recent.{is_same, has_tile}
-use Rattle.tile_cache.specs.Cached.{AreOwned}
+use Rattle.tile_cache.specs.Cached.{OwnsEntries}
 use Rattle.tile_cache.specs.Getting.{others_of}
 use Rattle.tile_cache.specs.Accounts.{SameSegments}
 
@@ -25,7 +26,7 @@ module _ {G : Type 0} where
   -- Where a tile is rebuilt its entry, the first, left, and its piece was freed. The others are owned, and stay.
   pub record Clears (told : Shown) (old new : Session G) (entries_then entries_now : List (Tile × Part)) : Type 0 where
     pub entries : entries_now ≡ others_of told entries_then
-    pub owned : AreOwned new.client (others_of told entries_then)
+    pub owned : OwnsEntries new.client (others_of told entries_then)
     pub stay : EntriesStay old.client new.client (others_of told entries_then)
     pub gone : new.client.gone ≡ old.client.gone
     pub name : KeepsName old.client new.client

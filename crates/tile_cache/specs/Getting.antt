@@ -7,7 +7,7 @@ use Rattle.segment.specs.declared.owner.Lock.TheVariants as lock
 use Rattle.tile_source.specs.declared.tile.Tile.{Tile}
 use Rattle.client.specs.Seen.{Seen, is_gone}
 use Rattle.client.specs.Pieces.{Part, bytes_of, part_after_lock}
-use Rattle.client.specs.Sizes.{pages_for}
+use Rattle.units.specs.Sizes.{pages_for}
 use Rattle.client.specs.Calls.{KeepsName, AfterFree, UnlocksRun}
 use Rattle.client.specs.declared.answers.Unlocked.{Unlocked}
 use Rattle.client.specs.Granting.{granted_pages}

@@ -1,7 +1,7 @@
 pub mod Recent
 pub mod Shown
 pub mod Cached
-pub mod Kept
+pub mod Sound
 pub mod Asked
 pub mod Getting
 pub mod Coming

@@ -58,7 +58,7 @@ pub struct Cache<G: Granter + Drop> {
 impl<G: Granter + Drop> Model for Cache<G> {
     ghost use Rattle.std.specs.Prelude.{◌≡◌};
     ghost use Rattle.tile_cache.specs.Cached.{Cached};
-    ghost use Rattle.tile_cache.specs.Kept.{IsKept};
+    ghost use Rattle.tile_cache.specs.Sound.{IsSoundCache};
 
     ghost Value = { Cached G };
 
@@ -73,7 +73,7 @@ impl<G: Granter + Drop> Model for Cache<G> {
       failed = c.failed;
     } };
 
-    ghost invariant = { λ c. IsKept (record {
+    ghost invariant = { λ c. IsSoundCache (record {
       session = c.granted;
       start = c.start.value;
       entries = c.entries.entries;
@@ -395,7 +395,7 @@ impl<G: Granter + Drop> Cache<G> {
             counts,
             ..
         } = self;
-        // Where the count of grants stands at its last value, the entries are no more than that.
+        // For the proof: calls up the clause `fits` of `LruCache::len`.
         let _tiles = entries.len();
         let (client, granter) = granted.close_with(rt);
         (CacheEnd::of(entries, counts, client), granter)

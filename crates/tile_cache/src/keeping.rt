@@ -7,7 +7,7 @@ ghost use Rattle.tile_source.specs.Tile.{IsTile};
 ghost use Rattle.units.specs.declared.TheConstants.{MOST_PAGES, PAGE};
 ghost use Rattle.span_heap.specs.Heap.{size_of};
 ghost use Rattle.tile_cache.specs.Recent.{is_same};
-ghost use Rattle.tile_cache.specs.Cached.{AreFree, AreOwned};
+ghost use Rattle.tile_cache.specs.Cached.{AreFree, OwnsEntries};
 ghost use Rattle.tile_cache.specs.Coming.{Clears, Comes, ComesNone};
 
 use crate::counts::Shown;
@@ -29,7 +29,7 @@ pub(crate) fn clear<G: Granter + Drop>(
     now: u64,
 )
     requires moment { IsMoment now }
-    requires owned { AreOwned granted.old.client entries.old.entries }
+    requires owned { OwnsEntries granted.old.client entries.old.entries }
     requires free { AreFree entries.old.entries }
     ensures clears { Clears shown granted.old granted.new entries.old.entries entries.new.entries }
     ensures cap { entries.new.cap ≡ entries.old.cap }
@@ -57,7 +57,7 @@ pub(crate) fn come<G: Granter + Drop, H: Threads + Wait + Sync>(
     requires size { (1 ≤ size) × (size ≤ MOST_PAGES * PAGE) }
     requires small { size_of granted.old.client.heap.segments + MOST_PAGES < 2 ^ 32 }
     requires moment { IsMoment now }
-    requires owned { AreOwned granted.old.client entries.old.entries }
+    requires owned { OwnsEntries granted.old.client entries.old.entries }
     requires free { AreFree entries.old.entries }
     requires absent { lookup (is_same tile) entries.old.entries ≡ None }
     requires room { length entries.old.entries < entries.old.cap }

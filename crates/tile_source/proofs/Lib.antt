@@ -1,4 +1,3 @@
-pub mod Drawing
 pub mod Gaps
 pub mod Numbers
 pub mod Powers

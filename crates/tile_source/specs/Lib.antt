@@ -1,4 +1,3 @@
-pub mod Draws
 pub mod Grammar
 pub mod Image
 pub mod Length

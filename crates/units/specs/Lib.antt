@@ -1,3 +1,5 @@
 pub mod Count
 pub mod Moment
 pub mod Range
+pub mod RowSearch
+pub mod Sizes

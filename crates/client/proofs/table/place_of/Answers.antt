@@ -2,4 +2,4 @@ use Rattle.client.proofs.PlacesFound.{place_found}
 use Rattle.client.proofs.table.place_of.Goals as goal
 
 pub returns : goal.returns
-returns c = place_found c.args.leases.now c.args.id c.first_place.result c.first_place.ensures
+returns c = place_found c.args.leases.now c.args.id c.find_row.result c.find_row.ensures

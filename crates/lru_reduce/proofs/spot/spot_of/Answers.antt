@@ -1,7 +1,7 @@
 use Rattle.std.proofs.Common.{arith, rules, nat_lt}
 use Rattle.std.proofs.lemmas.Bool.{ltb-true, ltb-false}
 use Rattle.std.proofs.lemmas.List.Sorted.{IsPartitionPoint-from_clause}
-use Rattle.lru_reduce.specs.declared.table.Slot.{Slot}
+use Rattle.lru_reduce.specs.declared.slots.Slot.{Slot}
 use Rattle.lru_reduce.proofs.Slotted.{parted}
 use Rattle.lru_reduce.proofs.spot.spot_of.Goals as goal
 

@@ -2,8 +2,8 @@ use Rattle.std.proofs.Common.{◌≡◌, ℕ, sym, ap, subst, ◌∙◌, length,
 use Rattle.std.proofs.lemmas.List.{length_push, take_all}
 use Rattle.std.proofs.lemmas.Iterator.Adapters.{YieldsList-from_vec}
 use Rattle.std.proofs.lemmas.Iterator.Consumers.{YieldsList-turn, YieldsList-end}
-use Rattle.line_text.specs.declared.command.Command.{Command}
-use Rattle.line_text.specs.Ranges.{IsInRange}
+use Rattle.script_text.specs.declared.command.Command.{Command}
+use Rattle.script_text.specs.Ranges.{IsInRange}
 use Rattle.replay_plain.specs.State.{first_state}
 use Rattle.replay_run.specs.Both.{BothStand}
 use Rattle.replay_run.proofs.Turns.{range_at, turn}

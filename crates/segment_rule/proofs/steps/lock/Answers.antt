@@ -1,10 +1,15 @@
-use Rattle.std.proofs.Common.{ap, sym, ◌∙◌, ◌*◌}
-use Rattle.segment_rule.proofs.StepsKeepTheRule.{locks_seat}
+use Rattle.std.proofs.Common.{List, ◌∷◌, ℕ, ap, sym, ◌∙◌, Some}
+use Rattle.atomic_table.specs.Table.{Me}
+use Rattle.segment_rule.specs.declared.view.View.{View}
+use Rattle.segment_rule.specs.Rule.{Slot}
+use Rattle.segment_rule.specs.Seats.{owner_of}
+use Rattle.segment_rule.proofs.StepsTell.{lock_tells, miss, in_hand}
 use Rattle.segment_rule.proofs.steps.lock.Goals as goal
 
-pub compare_exchange-requires : goal.compare_exchange-requires
-compare_exchange-requires c = (
-  c.requires.table.0,
-  c.requires.table.1,
-  locks_seat _ _ c.args.seat.now.me _ _ c.requires.owner.0 c.requires.owner.1 (c.unlocked.ensures ∙ ap (λ k. 2 * k) (sym c.requires.last.0)) c.locked.ensures,
-)
+pub exchange-requires : goal.exchange-requires
+exchange-requires c =
+    let me : Me Slot View = c.args.seat.now.me in
+    let told = miss _ _ c.lock.result 0 (λ e. c.if-lock-purged.false (e ∙ sym c.purged.ensures)) (lock_tells me c.lock.new.seat.me c.lock.result c.lock.ensures.made) in (
+      c.lock.ensures.table ∙ c.requires.table.0,
+      (Some (owner_of me.0).left, in_hand c.lock.new.seat.me.1 (Some (owner_of me.0).left) (ap (λ (m : Me Slot View). m.1) told ∙ ap (λ (xs : List (ℕ × Slot)). (0, Some (owner_of me.0).left) ∷ xs) (ap (λ (m : Me Slot View). m.1) c.requires.owner.0))),
+    )

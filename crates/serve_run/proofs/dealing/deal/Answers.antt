@@ -18,4 +18,4 @@ hand_on-requires-clause-known g c = subst (λ (n : ℕ). AreOf n c.args.requests
 pub returns-clause-dealt : goal.returns-clause-dealt
 returns-clause-dealt g c =
     let whole : c.loop-number.number ≡ length c.args.requests.now = omega (arith, c.loop-number-test.false, c.loop-number.auto.number-end) in
-    subst (λ (n : ℕ). AreDealt (λ desk. desk.places.items) c.args.requests.now n c.loop-number.desks) whole c.loop-number.invariant.2
+    subst (λ (n : ℕ). AreDealt (λ worker. worker.places.items) c.args.requests.now n c.loop-number.workers) whole c.loop-number.invariant.2

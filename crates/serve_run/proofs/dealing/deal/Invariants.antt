@@ -5,8 +5,8 @@ use Rattle.serve_run.proofs.dealing.deal.Given as goal
 -- the places of the requests so far were dealt
 abbrev pub invariant-loop-number : goal.invariant-loop-number
 invariant-loop-number g l =
-    (length l.desks ≡ length l.fn.desks)
-    × HaveRoom (λ desk. vec_capacity desk.places) l.requests l.desks
-    × AreDealt (λ desk. desk.places.items) l.requests l.number l.desks
-    × AllEmpty (λ desk. desk.places.items) l.desks
+    (length l.workers ≡ length l.fn.workers)
+    × HaveRoom (λ worker. vec_capacity worker.places) l.requests l.workers
+    × AreDealt (λ worker. worker.places.items) l.requests l.number l.workers
+    × AllEmpty (λ worker. worker.places.items) l.workers
     × (l.frame ≡ record l.fn.frame { given = l.number })

@@ -1,6 +1,6 @@
 use Rattle.std.proofs.Common.{◌≡◌, ◌||◌, sym, ap, ◌∙◌, refl, arith}
 use Rattle.std.proofs.lemmas.Option.{same_Some}
-use Rattle.client.specs.Sizes.{pages_for}
+use Rattle.units.specs.Sizes.{pages_for}
 use Rattle.tile_cache.proofs.EntriesStay.{all_stay}
 use Rattle.tile_cache.proofs.ClientSteps.{name_on, name_allocated, unmoved_freed}
 use Rattle.tile_cache.proofs.CacheSteps.{wanted_is}

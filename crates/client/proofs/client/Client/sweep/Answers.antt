@@ -6,13 +6,13 @@ use Rattle.client.proofs.client.Client.sweep.Goals as goal
 pub loop-place-init : goal.loop-place-init
 loop-place-init c = sweeping_start c.args.self.now
 
-pub loop-place-preserved-then-look_at : goal.loop-place-preserved-then-look_at
-loop-place-preserved-then-look_at c =
-    sweeping_there _ _ c.look_at.new.self c.loop-place.place c.loop-place.invariant (rw c.if-look_at.true at c.look_at.ensures.looks) c.look_at.ensures.stay
+pub loop-place-preserved-then-look : goal.loop-place-preserved-then-look
+loop-place-preserved-then-look c =
+    sweeping_there _ _ c.look.new.self c.loop-place.place c.loop-place.invariant (rw c.if-look.true at c.look.ensures.looks) c.look.ensures.stay
 
 pub loop-place-preserved : goal.loop-place-preserved
 loop-place-preserved c =
-    sweeping_gone _ _ c.look_at.new.self c.loop-place.place c.loop-place.invariant (rw c.if-look_at.false at c.look_at.ensures.looks) c.look_at.ensures.stay
+    sweeping_gone _ _ c.look.new.self c.loop-place.place c.loop-place.invariant (rw c.if-look.false at c.look.ensures.looks) c.look.ensures.stay
 
 pub returns-clause-sweeps : goal.returns-clause-sweeps
 returns-clause-sweeps c =

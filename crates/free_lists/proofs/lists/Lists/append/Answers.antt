@@ -1,5 +1,5 @@
 use Rattle.std.proofs.Common.{◌≡◌, ◌+◌, ◌-◌, min, ap, arith}
-use Rattle.free_lists.proofs.Linking.{IsKept-linked}
+use Rattle.free_lists.proofs.Linking.{IsSoundLists-linked}
 use Rattle.free_lists.proofs.Views.{linked_is, linked_length, free_class, lists_linked}
 use Rattle.free_lists.proofs.lists.Lists.append.Goals as goal
 
@@ -9,7 +9,7 @@ invariant_of-self c =
     let free = free_class nodes c.args.place c.self.invariant (rw (← c.self.view_is) at c.requires.free) in
     let within = rw (← c.self.view_is) at c.requires.place in
     rw c.link.ensures
-    (IsKept-linked nodes _ c.args.place (c.min.result - 1) c.self.invariant (omega (arith, c.min.ensures)) free
+    (IsSoundLists-linked nodes _ c.args.place (c.min.result - 1) c.self.invariant (omega (arith, c.min.ensures)) free
     (linked_is nodes c.args.place c.min.result c.self.invariant (omega (arith, c.min.ensures, c.requires.sized)) (omega (arith, c.min.ensures)) (omega (arith, within, c.self.invariant.ends)) free))
 
 pub returns : goal.returns

@@ -1,6 +1,6 @@
 use Rattle.std.proofs.Common.{◌+◌, ◌-◌, ap}
 use Rattle.free_lists.proofs.Nodes.{next_within, prev_within}
-use Rattle.free_lists.proofs.Unlinking.{IsKept-unlinked}
+use Rattle.free_lists.proofs.Unlinking.{IsSoundLists-unlinked}
 use Rattle.free_lists.proofs.Views.{unlinked_is, unlinked_length, listed_within, lists_unlinked}
 use Rattle.free_lists.proofs.lists.Lists.remove.Goals as goal
 
@@ -17,7 +17,7 @@ pub invariant_of-self : goal.invariant_of-self
 invariant_of-self c =
     let nodes = c.self.inside.nodes.items in
     let within = listed_within nodes c.args.place c.self.invariant (rw (← c.self.view_is) at c.requires) in
-    rw c.unlink.ensures (IsKept-unlinked nodes _ c.args.place c.self.invariant (unlinked_is nodes c.args.place c.self.invariant within))
+    rw c.unlink.ensures (IsSoundLists-unlinked nodes _ c.args.place c.self.invariant (unlinked_is nodes c.args.place c.self.invariant within))
 
 pub returns : goal.returns
 returns c =

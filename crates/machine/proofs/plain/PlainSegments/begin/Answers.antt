@@ -6,7 +6,7 @@ use Rattle.machine.specs.declared.event.Answer.TheVariants.{Granted, Misuse}
 use Rattle.machine.specs.declared.event.Answer.{Answer}
 use Rattle.machine.specs.History.{History, number_of}
 use Rattle.machine.specs.Answers.{answer_of}
-use Rattle.machine.specs.Kept.{Kept}
+use Rattle.machine.specs.KeptSegment.{KeptSegment}
 use Rattle.machine.specs.Segments.{Shows, ShowsAll, IsUnknown, kept_at}
 use Rattle.machine.proofs.Whole.{ShowsAt, at_misuse, unknown_found, unknown_misused, grant_misused, granted, all_after, shows_fresh}
 use Rattle.machine.proofs.plain.PlainSegments.begin.Goals as goal
@@ -51,7 +51,7 @@ returns-clause-answer c = λ h w.
 pub returns-clause-after : goal.returns-clause-after
 returns-clause-after c = λ h before.
     let old = c.self.inside.segments.entries in
-    let w = subst (λ (xs : List (ℕ × Kept)). ShowsAll h xs) (sym c.self.view_is) before in
+    let w = subst (λ (xs : List (ℕ × KeptSegment)). ShowsAll h xs) (sym c.self.view_is) before in
     let number = ap number_of c.in-Grant.is in
     let unknown = subst (λ (n : ℕ). IsUnknown h n) number (unknown_found h c.args.self.now (number_of c.args.event.now) c.requires before) in
     let id = c.in-Grant.id in

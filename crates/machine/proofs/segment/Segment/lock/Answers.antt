@@ -4,7 +4,7 @@ use Rattle.machine.specs.declared.event.Event.TheVariants.{Lock}
 use Rattle.std.specs.Vec.{with_items}
 use Rattle.std.proofs.lemmas.List.{with_items_is}
 use Rattle.units.specs.Range.{is_within}
-use Rattle.machine.specs.Kept.{Kept}
+use Rattle.machine.specs.KeptSegment.{KeptSegment}
 use Rattle.machine.specs.Segments.{Shows}
 use Rattle.machine.specs.contracts.segment.Segment.{the_view}
 use Rattle.machine.proofs.Untouched.{shows_misuse}
@@ -20,7 +20,7 @@ returns-then-not-can_lock-clause-after c = λ h s w. shows_misuse h (Lock s c.ar
 
 pub returns-then-self-clause-answer : goal.returns-then-self-clause-answer
 returns-then-self-clause-answer c = λ h s w.
-    ap (λ (b : Bool). cond b Gone Held) (sym c.if-self.true ∙ ap (λ (k : Kept). k.gone) c.self.view_is)
+    ap (λ (b : Bool). cond b Gone Held) (sym c.if-self.true ∙ ap (λ (k : KeptSegment). k.gone) c.self.view_is)
     ∙ lock_answer h s c.args.first c.args.count c.args.self.now w (c.if-not-can_lock.ensures.told h s w)
 
 pub returns-then-self-clause-after : goal.returns-then-self-clause-after
@@ -29,17 +29,17 @@ returns-then-self-clause-after c = λ h s w. shows_lock_gone h s c.args.first c.
 pub set_all-requires-clause-inside : goal.set_all-requires-clause-inside
 set_all-requires-clause-inside c =
     let inside = c.if-not-can_lock.ensures.inside refl in
-    let same = ap length (c.deref_mut.ensures.value ∙ ap (λ (k : Kept). k.held) c.self.view_is) in
+    let same = ap length (c.deref_mut.ensures.value ∙ ap (λ (k : KeptSegment). k.held) c.self.view_is) in
     omega arith
 
 pub set_all-requires-clause-other : goal.set_all-requires-clause-other
 set_all-requires-clause-other c = λ page low high.
-    ap (λ (xs : List Bool). get_or xs page false) (c.deref_mut.ensures.value ∙ ap (λ (k : Kept). k.held) c.self.view_is)
+    ap (λ (xs : List Bool). get_or xs page false) (c.deref_mut.ensures.value ∙ ap (λ (k : KeptSegment). k.held) c.self.view_is)
     ∙ c.if-not-can_lock.ensures.free refl page low high
 
 pub returns-clause-answer : goal.returns-clause-answer
 returns-clause-answer c = λ h s w.
-    ap (λ (b : Bool). cond b Gone Held) (sym c.if-self.false ∙ ap (λ (k : Kept). k.gone) c.self.view_is)
+    ap (λ (b : Bool). cond b Gone Held) (sym c.if-self.false ∙ ap (λ (k : KeptSegment). k.gone) c.self.view_is)
     ∙ lock_answer h s c.args.first c.args.count c.args.self.now w (c.if-not-can_lock.ensures.told h s w)
 
 pub returns-clause-after : goal.returns-clause-after
@@ -47,7 +47,7 @@ returns-clause-after c = λ h s w.
     let sized : length c.set_all.new.pages ≡ vec_len c.self.inside.held = c.set_all.auto.pages ∙ c.deref_mut.ensures.len in
     let written = with_items_is c.self.inside.held c.set_all.new.pages sized in
     shows_lock h s c.args.first c.args.count (the_view c.self.inside) (with_items c.self.inside.held c.set_all.new.pages).items
-    (subst (λ (k : Kept). Shows h s k) (sym c.self.view_is) w)
+    (subst (λ (k : KeptSegment). Shows h s k) (sym c.self.view_is) w)
     (ap length written ∙ sized ∙ c.self.inside.held.ok.0)
     (λ page. ap (λ (xs : List Bool). get_or xs page false) written ∙ c.set_all.ensures.after page
     ∙ ap (λ (xs : List Bool). cond (is_within c.args.first c.args.count page) true (get_or xs page false)) c.deref_mut.ensures.value)

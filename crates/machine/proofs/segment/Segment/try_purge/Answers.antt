@@ -4,7 +4,7 @@ use Rattle.std.proofs.lemmas.Bool.{ne_eqb}
 use Rattle.machine.specs.declared.event.Answer.TheVariants.{Taken, Used}
 use Rattle.machine.specs.declared.event.Event.TheVariants.{Try}
 use Rattle.machine.specs.Answers.{tried}
-use Rattle.machine.specs.Kept.{Kept}
+use Rattle.machine.specs.KeptSegment.{KeptSegment}
 use Rattle.machine.specs.Segments.{Shows}
 use Rattle.machine.specs.contracts.segment.Segment.{the_view}
 use Rattle.machine.proofs.Untouched.{shows_misuse}
@@ -24,10 +24,10 @@ returns-then-self-gt0-clause-answer c = λ h s w.
     let counted = c.self.invariant.0 in
     let some : nat_lt 0 (count_by (λ (b : Bool). b) k.held) ≡ true = grind (arith, nat_tests) in
     sym (ap (λ (b : Bool). tried b k.stamp (unwrap_or k.known 0) c.args.now) some)
-    ∙ try_answer h s c.args.now k (subst (λ (k : Kept). Shows h s k) (sym c.self.view_is) w) (c.if-not-can_try.ensures h s w)
+    ∙ try_answer h s c.args.now k (subst (λ (k : KeptSegment). Shows h s k) (sym c.self.view_is) w) (c.if-not-can_try.ensures h s w)
 
 pub returns-then-self-gt0-clause-after : goal.returns-then-self-gt0-clause-after
-returns-then-self-gt0-clause-after c = λ h s w. shows_used h s c.args.now c.args.now (the_view c.self.inside) (subst (λ (k : Kept). Shows h s k) (sym c.self.view_is) w)
+returns-then-self-gt0-clause-after c = λ h s w. shows_used h s c.args.now c.args.now (the_view c.self.inside) (subst (λ (k : KeptSegment). Shows h s k) (sym c.self.view_is) w)
 
 pub returns-then-unwrap_or-self-clause-answer : goal.returns-then-unwrap_or-self-clause-answer
 returns-then-unwrap_or-self-clause-answer c = λ h s w.
@@ -36,13 +36,13 @@ returns-then-unwrap_or-self-clause-answer c = λ h s w.
     let none : nat_lt 0 (count_by (λ (b : Bool). b) k.held) ≡ false = grind (arith, nat_tests) in
     let same : (unwrap_or k.known 0 == k.stamp) ≡ true = eq-eqb _ _ (sym c.unwrap_or.ensures ∙ c.if-unwrap_or-self.true) in
     sym (ap (λ (b : Bool). tried b k.stamp (unwrap_or k.known 0) c.args.now) none ∙ ap (λ (b : Bool). cond b Taken (Used k.stamp)) same)
-    ∙ try_answer h s c.args.now k (subst (λ (k : Kept). Shows h s k) (sym c.self.view_is) w) (c.if-not-can_try.ensures h s w)
+    ∙ try_answer h s c.args.now k (subst (λ (k : KeptSegment). Shows h s k) (sym c.self.view_is) w) (c.if-not-can_try.ensures h s w)
 
 pub returns-then-unwrap_or-self-clause-after : goal.returns-then-unwrap_or-self-clause-after
 returns-then-unwrap_or-self-clause-after c = λ h s w.
     let k = the_view c.self.inside in
     subst (λ (bytes : List ℕ). Shows ((Try s c.args.now, Taken) ∷ h) s (record k { bytes = bytes; gone = true })) (sym c.new.ensures.items)
-    (shows_taken h s c.args.now k (subst (λ (k : Kept). Shows h s k) (sym c.self.view_is) w))
+    (shows_taken h s c.args.now k (subst (λ (k : KeptSegment). Shows h s k) (sym c.self.view_is) w))
 
 pub returns-clause-answer : goal.returns-clause-answer
 returns-clause-answer c = λ h s w.
@@ -51,7 +51,7 @@ returns-clause-answer c = λ h s w.
     let none : nat_lt 0 (count_by (λ (b : Bool). b) k.held) ≡ false = grind (arith, nat_tests) in
     let other : (unwrap_or k.known 0 == k.stamp) ≡ false = ne_eqb _ _ (λ e. c.if-unwrap_or-self.false (c.unwrap_or.ensures ∙ e)) in
     sym (ap (λ (b : Bool). tried b k.stamp (unwrap_or k.known 0) c.args.now) none ∙ ap (λ (b : Bool). cond b Taken (Used k.stamp)) other)
-    ∙ try_answer h s c.args.now k (subst (λ (k : Kept). Shows h s k) (sym c.self.view_is) w) (c.if-not-can_try.ensures h s w)
+    ∙ try_answer h s c.args.now k (subst (λ (k : KeptSegment). Shows h s k) (sym c.self.view_is) w) (c.if-not-can_try.ensures h s w)
 
 pub returns-clause-after : goal.returns-clause-after
-returns-clause-after c = λ h s w. shows_used h s c.args.now c.self.inside.stamp (the_view c.self.inside) (subst (λ (k : Kept). Shows h s k) (sym c.self.view_is) w)
+returns-clause-after c = λ h s w. shows_used h s c.args.now c.self.inside.stamp (the_view c.self.inside) (subst (λ (k : KeptSegment). Shows h s k) (sym c.self.view_is) w)

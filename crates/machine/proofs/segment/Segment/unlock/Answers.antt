@@ -6,7 +6,7 @@ use Rattle.machine.specs.declared.event.Answer.TheVariants.{Idle, StillHeld}
 use Rattle.machine.specs.declared.event.Event.TheVariants.{Unlock}
 use Rattle.units.specs.Range.{is_within}
 use Rattle.machine.specs.Answers.{staying}
-use Rattle.machine.specs.Kept.{Kept}
+use Rattle.machine.specs.KeptSegment.{KeptSegment}
 use Rattle.machine.specs.Segments.{Shows}
 use Rattle.machine.specs.contracts.segment.Segment.{the_view}
 use Rattle.machine.proofs.Untouched.{shows_misuse}
@@ -23,19 +23,19 @@ returns-then-not-can_unlock-clause-after c = λ h s w. shows_misuse h (Unlock s 
 pub set_all-requires-clause-inside : goal.set_all-requires-clause-inside
 set_all-requires-clause-inside c =
     let inside = c.if-not-can_unlock.ensures.inside refl in
-    let same = ap length (c.deref_mut.ensures.value ∙ ap (λ (k : Kept). k.held) c.self.view_is) in
+    let same = ap length (c.deref_mut.ensures.value ∙ ap (λ (k : KeptSegment). k.held) c.self.view_is) in
     omega arith
 
 pub set_all-requires-clause-other : goal.set_all-requires-clause-other
 set_all-requires-clause-other c = λ page low high.
-    ap (λ (xs : List Bool). get_or xs page false) (c.deref_mut.ensures.value ∙ ap (λ (k : Kept). k.held) c.self.view_is)
+    ap (λ (xs : List Bool). get_or xs page false) (c.deref_mut.ensures.value ∙ ap (λ (k : KeptSegment). k.held) c.self.view_is)
     ∙ c.if-not-can_unlock.ensures.held refl page low high
 
 pub returns-then-self-gt0-clause-answer : goal.returns-then-self-gt0-clause-answer
 returns-then-self-gt0-clause-answer c = λ h s w.
     let kept = c.args.self.now in
     let flags = c.set_all.new.pages in
-    let held : c.deref_mut.result.now ≡ kept.held = c.deref_mut.ensures.value ∙ ap (λ (k : Kept). k.held) c.self.view_is in
+    let held : c.deref_mut.result.now ≡ kept.held = c.deref_mut.ensures.value ∙ ap (λ (k : KeptSegment). k.held) c.self.view_is in
     let sized : length flags ≡ length kept.held = c.set_all.auto.pages ∙ ap length held in
     let stay = staying_told h s c.args.first c.args.count kept flags w (unlock_plain h s c.args.first c.args.count c.args.at (c.if-not-can_unlock.ensures.told h s w)) sized
     (λ page. c.set_all.ensures.after page ∙ ap (λ (xs : List Bool). cond (is_within c.args.first c.args.count page) false (get_or xs page false)) held) in
@@ -52,7 +52,7 @@ returns-then-self-gt0-clause-after c = λ h s w.
     let sized : length c.set_all.new.pages ≡ vec_len c.self.inside.held = c.set_all.auto.pages ∙ c.deref_mut.ensures.len in
     let written = with_items_is c.self.inside.held c.set_all.new.pages sized in
     shows_still_held h s c.args.first c.args.count c.args.at (c.self.inside.held_count - c.args.count) (the_view c.self.inside) (with_items c.self.inside.held c.set_all.new.pages).items
-    (subst (λ (k : Kept). Shows h s k) (sym c.self.view_is) w)
+    (subst (λ (k : KeptSegment). Shows h s k) (sym c.self.view_is) w)
     (ap length written ∙ sized ∙ c.self.inside.held.ok.0)
     (λ page. ap (λ (xs : List Bool). get_or xs page false) written ∙ c.set_all.ensures.after page
     ∙ ap (λ (xs : List Bool). cond (is_within c.args.first c.args.count page) false (get_or xs page false)) c.deref_mut.ensures.value)
@@ -61,7 +61,7 @@ pub returns-clause-answer : goal.returns-clause-answer
 returns-clause-answer c = λ h s w.
     let kept = c.args.self.now in
     let flags = c.set_all.new.pages in
-    let held : c.deref_mut.result.now ≡ kept.held = c.deref_mut.ensures.value ∙ ap (λ (k : Kept). k.held) c.self.view_is in
+    let held : c.deref_mut.result.now ≡ kept.held = c.deref_mut.ensures.value ∙ ap (λ (k : KeptSegment). k.held) c.self.view_is in
     let sized : length flags ≡ length kept.held = c.set_all.auto.pages ∙ ap length held in
     let stay = staying_told h s c.args.first c.args.count kept flags w (unlock_plain h s c.args.first c.args.count c.args.at (c.if-not-can_unlock.ensures.told h s w)) sized
     (λ page. c.set_all.ensures.after page ∙ ap (λ (xs : List Bool). cond (is_within c.args.first c.args.count page) false (get_or xs page false)) held) in
@@ -69,7 +69,7 @@ returns-clause-answer c = λ h s w.
     let counted = c.set_all.ensures.counted in
     let invariant = c.self.invariant.0 in
     let n : 0 ≡ staying h s c.args.first c.args.count = omega arith in
-    ap Idle (c.max-self-inside.ensures ∙ ap (λ t. max t c.args.at) (ap (λ (k : Kept). k.stamp) c.self.view_is))
+    ap Idle (c.max-self-inside.ensures ∙ ap (λ t. max t c.args.at) (ap (λ (k : KeptSegment). k.stamp) c.self.view_is))
     ∙ unlock_answer h s c.args.first c.args.count c.args.at 0 kept w (c.if-not-can_unlock.ensures.told h s w) n
 
 pub returns-clause-after : goal.returns-clause-after
@@ -77,7 +77,7 @@ returns-clause-after c = λ h s w.
     let sized : length c.set_all.new.pages ≡ vec_len c.self.inside.held = c.set_all.auto.pages ∙ c.deref_mut.ensures.len in
     let written = with_items_is c.self.inside.held c.set_all.new.pages sized in
     shows_idle h s c.args.first c.args.count c.args.at c.max-self-inside.result (the_view c.self.inside) (with_items c.self.inside.held c.set_all.new.pages).items
-    (subst (λ (k : Kept). Shows h s k) (sym c.self.view_is) w)
+    (subst (λ (k : KeptSegment). Shows h s k) (sym c.self.view_is) w)
     (ap length written ∙ sized ∙ c.self.inside.held.ok.0)
     (λ page. ap (λ (xs : List Bool). get_or xs page false) written ∙ c.set_all.ensures.after page
     ∙ ap (λ (xs : List Bool). cond (is_within c.args.first c.args.count page) false (get_or xs page false)) c.deref_mut.ensures.value)

@@ -4,7 +4,7 @@ use Rattle.std.proofs.lemmas.List.{with_items_is, nil_from_length}
 use Rattle.std.proofs.lemmas.Bool.{eqb-true as eqb_means}
 use Rattle.machine.specs.declared.event.Event.TheVariants.{Write}
 use Rattle.machine.specs.History.{put}
-use Rattle.machine.specs.Kept.{Kept}
+use Rattle.machine.specs.KeptSegment.{KeptSegment}
 use Rattle.machine.specs.Segments.{Shows}
 use Rattle.machine.specs.contracts.segment.Segment.{the_view}
 use Rattle.machine.proofs.Untouched.{shows_misuse}
@@ -27,7 +27,7 @@ pub returns-then-not-is_empty-clause-after : goal.returns-then-not-is_empty-clau
 returns-then-not-is_empty-clause-after c = λ h s w.
     let written = with_items_is c.self.inside.bytes c.put.new.old (c.put.auto.old ∙ c.deref_mut.ensures.len) in
     shows_write h s c.args.place c.args.bytes.now (the_view c.self.inside) (with_items c.self.inside.bytes c.put.new.old).items
-    (subst (λ (k : Kept). Shows h s k) (sym c.self.view_is) w)
+    (subst (λ (k : KeptSegment). Shows h s k) (sym c.self.view_is) w)
     (written ∙ c.put.ensures ∙ ap (λ old. put c.args.place c.args.bytes.now old) c.deref_mut.ensures.value)
 
 pub returns-else-not-is_empty-clause-answer : goal.returns-else-not-is_empty-clause-answer

@@ -1,4 +1,4 @@
-use Rattle.std.proofs.Common.{◌-◌, sym, ap, ◌∙◌}
+use Rattle.std.proofs.Common.{◌-◌, sym, ap, ◌∙◌, ℕ}
 use Rattle.machine.specs.declared.event.Answer.TheVariants.{Taken}
 use Rattle.machine.specs.Answers.{answered}
 use Rattle.replay_plain.proofs.Following.{all_taken, not_kept, taken_not_misuse}
@@ -17,8 +17,8 @@ returns-in_default-clause-known c = λ events now w is.
 
 pub returns-clause-tells : goal.returns-clause-tells
 returns-clause-tells c = λ events now w is.
-    all_taken events c.args.id now c.args.self.now _ _ w is (sym c.in-Some.ensures) c.set.ensures
-    (c.saturating_sub-self.ensures ∙ ap (λ n. c.args.self.now.pages - n) c.from.ensures)
+    all_taken events c.args.id now c.args.self.now _ _ w is (sym c.in-Some.ensures) (c.lose.ensures.items ∙ c.set.ensures.items)
+    (c.lose.ensures.pages ∙ ap (λ (p : ℕ). p - c.in-Some.segment.pages) c.set.ensures.pages)
 
 pub returns-clause-known : goal.returns-clause-known
 returns-clause-known c = λ events now w is. (w.each c.args.id _ (sym c.in-Some.ensures)).known

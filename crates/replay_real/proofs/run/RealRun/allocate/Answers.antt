@@ -33,7 +33,7 @@ returns-in_ok-run-in-None-clause-tells c = on_ok_weaker c.push_piece-in-None.res
   sized = ap (λ (r : Run). r.pages) c.in_ok-run-in-None.ensures.begins.grants.front ∙ c.pages_for-pages.ensures.value;
   found = c.find.new.self;
   standard = c.in_ok-run.ensures.standard;
-  manager = subst (λ (n : ℕ). BeginsPiece c.args.client n c.args.at c.in_ok-run-in-None.run' (record c.args.self.now { heaps = c.find.new.self }) c.begin_segment.new.self)
+  manager = subst (λ (n : ℕ). BeginsPiece c.args.client n c.args.now c.in_ok-run-in-None.run' (record c.args.self.now { heaps = c.find.new.self }) c.begin_segment.new.self)
       c.pages_for-pages.ensures.value c.in_ok-run-in-None.ensures.begins;
   words = is ∙ ap (λ (n : ℕ). c.args.reply.now.items ++ piece_words n false c.in_ok-run-in-None.run') c.last_piece-in-None.ensures;
 }) c.push_piece-in-None.ensures

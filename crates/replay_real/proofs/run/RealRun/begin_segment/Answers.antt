@@ -12,7 +12,7 @@ returns-clause-begins c = IfOk-weaker c.adopt.result _ _ (λ run grants. record 
   listed = c.tell.new.state;
   told = c.tell.new.self;
   tells = c.tell.ensures.tells;
-  grants = subst (λ (n : ℕ). GrantsPiece c.args.client c.args.pages c.args.at n run c.tell.new.state c.adopt.new.self.state)
+  grants = subst (λ (n : ℕ). GrantsPiece c.args.client c.args.pages c.args.now n run c.tell.new.state c.adopt.new.self.state)
       (standard_kept c.args.client _ _ c.sweep.new.self c.tell.new.self c.tell.ensures.tells
       ∙ standard_kept c.args.client _ _ c.args.self.now.heaps c.sweep.new.self c.sweep.ensures)
       grants;

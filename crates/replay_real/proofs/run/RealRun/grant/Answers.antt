@@ -11,13 +11,13 @@ use Rattle.replay_real.proofs.Following.{grants_next, stands_granted, grant_word
 use Rattle.replay_real.proofs.run.RealRun.grant.Goals as goal
 
 pub returns-in_err-side-clause-book : goal.returns-in_err-side-clause-book
-returns-in_err-side-clause-book c = grows_runs_out c.args.pages c.args.at c.args.self.now.state c.grant.new.self c.in_err-side.ensures.err
+returns-in_err-side-clause-book c = grows_runs_out c.args.pages c.args.now c.args.self.now.state c.grant.new.self c.in_err-side.ensures.err
 
 pub returns-in_err-add-clause-book : goal.returns-in_err-add-clause-book
-returns-in_err-add-clause-book c = grows_grants c.args.client c.args.pages c.args.at c.in_ok-side.side c.args.self.now.state c.grant.new.self c.in_ok-side.ensures.ok
+returns-in_err-add-clause-book c = grows_grants c.args.client c.args.pages c.args.now c.in_ok-side.side c.args.self.now.state c.grant.new.self c.in_ok-side.ensures.ok
 
 pub returns-clause-book : goal.returns-clause-book
-returns-clause-book c = grows_grants c.args.client c.args.pages c.args.at c.in_ok-side.side c.args.self.now.state c.grant.new.self c.in_ok-side.ensures.ok
+returns-clause-book c = grows_grants c.args.client c.args.pages c.args.now c.in_ok-side.side c.args.self.now.state c.grant.new.self c.in_ok-side.ensures.ok
 
 pub returns-clause-words : goal.returns-clause-words
 returns-clause-words c = on_ok_weaker c.push_answer.result (λ is. appends _ _ _ is (answer_line (Granted c.id-id.result))) c.push_answer.ensures
@@ -26,7 +26,7 @@ pub returns-clause-follows : goal.returns-clause-follows
 returns-clause-follows c = on_ok_weaker c.push_answer.result (λ is state w enough.
     let side = c.in_ok-side.side in
     let made = c.in_ok-side.ensures.ok in
-    let next = grants_next state c.args.client c.args.pages c.args.at side c.args.self.now.state c.grant.new.self c.args.self.now.owners w
+    let next = grants_next state c.args.client c.args.pages c.args.now side c.args.self.now.state c.grant.new.self c.args.self.now.owners w
     c.requires.client c.requires.pages.0 c.requires.pages.1 enough made in
     record {
       reply = is ∙ ap (λ (words : List ℕ). c.args.reply.now.items ++ words)

@@ -14,10 +14,10 @@ returns-clause-words c = on_ok_weaker c.push_answer.result (λ is. appends _ _ _
 
 pub returns-clause-follows : goal.returns-clause-follows
 returns-clause-follows c = on_ok_weaker c.push_answer.result (λ is state w.
-    let e = Unlock c.args.id c.args.first c.args.count c.args.at in
+    let e = Unlock c.args.id c.args.first c.args.count c.args.now in
     record {
       reply = is ∙ ap (λ (a : Answer). c.args.reply.now.items ++ answer_text a) (c.unlock.ensures.answer (answered state.events) w.owners);
-      stands = stands_after c.args.self.now.state c.args.self.now.owners c.unlock.new.self state e (plain_unlock state c.args.id c.args.first c.args.count c.args.at) w
+      stands = stands_after c.args.self.now.state c.args.self.now.owners c.unlock.new.self state e (plain_unlock state c.args.id c.args.first c.args.count c.args.now) w
           (λ h shows. subst (λ (a : Answer). ShowsEach ((e, a) ∷ h) c.unlock.new.self) (c.unlock.ensures.answer h shows) (c.unlock.ensures.after h shows))
           c.unlock.ensures.clients c.unlock.ensures.places;
     }) c.push_answer.ensures

@@ -24,4 +24,4 @@ pub invariant_of-self-2 : goal.invariant_of-self-2
 invariant_of-self-2 c =
     let past = c.if-id-self.false in
     rw (c.push_reserved.ensures.items, c.reserve.ensures.items, c.push_reserved-2.ensures.items, c.reserve-2.ensures.items)
-    (kept_adopted c.self.inside.heap c.grow_front.new.heap c.self.inside.segments.items c.self.inside.pieces.items c.self.inside.last c.args.id c.args.whole c.args.pages c.in_ok-span.span c.self.invariant (omega arith) c.requires.sized c.in_ok-span.ensures.grown c.in_ok-span.ensures.partition)
+    (kept_adopted c.self.inside.heap c.grow_front.new.self c.self.inside.segments.items c.self.inside.pieces.items c.self.inside.last c.args.id c.args.whole c.args.pages c.in_ok-span.span c.self.invariant (omega arith) c.requires.sized c.in_ok-span.ensures.grown c.in_ok-span.ensures.partition)

@@ -1,7 +1,7 @@
 use Rattle.std.proofs.Common.{List, Option, [], ◌∷◌, sym, ap, ◌∙◌, subst, ◌++◌}
 use Rattle.std.specs.Option.{option_to_list}
 use Rattle.span_heap.specs.declared.run.Run.{Run}
-use Rattle.script_heaps.specs.Kept.{IsPiece}
+use Rattle.script_heaps.specs.Sound.{IsPiece}
 use Rattle.script_heaps.proofs.PiecesAtPlaces.{piece_front}
 use Rattle.script_heaps.proofs.KeptThrough.{kept_fewer}
 use Rattle.script_heaps.proofs.Losing.{lost_last}

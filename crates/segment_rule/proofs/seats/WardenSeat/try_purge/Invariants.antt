@@ -1,4 +1,4 @@
 use Rattle.segment_rule.proofs.seats.WardenSeat.try_purge.Given as goal
 
-abbrev pub ghosts-take_away : goal.ghosts-take_away
-ghosts-take_away a = record { now = a.now }
+abbrev pub ghosts-try_purge : goal.ghosts-try_purge
+ghosts-try_purge a = record { now = a.now }

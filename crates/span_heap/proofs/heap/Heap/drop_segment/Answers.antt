@@ -4,7 +4,7 @@ use Rattle.span_heap.specs.Run.{lies_in}
 use Rattle.span_heap.specs.Runs.{dropped}
 use Rattle.span_heap.specs.Segment.{pages_in}
 use Rattle.span_heap.proofs.SegmentsComeAndLeave.{sum_by-filter-le}
-use Rattle.span_heap.proofs.CountsAreKept.{IsKept-dropped}
+use Rattle.span_heap.proofs.CountsAreKept.{IsSoundHeap-dropped}
 use Rattle.span_heap.proofs.HeapOverTheTable.{kept_as, segment_pages}
 use Rattle.span_heap.proofs.heap.Heap.drop_segment.Goals as goal
 
@@ -47,7 +47,7 @@ invariant_of-self c =
     let both : c.width-pages.result ≡ pages_in id h.table.used + pages_in id h.table.free = omega (arith, width, kept.by_segment id) in
     rw (free, both)
     (kept_as c.drop_row.new.self _ (dropped h.table.used id) _ _ _ c.drop_row.ensures.segments c.drop_row.ensures.used c.drop_row.ensures.free
-    (IsKept-dropped h.table.segments h.table.used h.table.free (dropped h.table.used id) id h.pages h.free_pages kept (IsPermutation-refl (dropped h.table.used id))))
+    (IsSoundHeap-dropped h.table.segments h.table.used h.table.free (dropped h.table.used id) id h.pages h.free_pages kept (IsPermutation-refl (dropped h.table.used id))))
 
 pub returns-clause-answer : goal.returns-clause-answer
 returns-clause-answer c = rw (← c.self.view_is) c.used_pages-used.ensures.pages

@@ -1,7 +1,7 @@
 use Rattle.std.proofs.Common.{◌++◌, ◌∷◌, [], refl, ◌∙◌, ap, arith}
 use Rattle.std.proofs.lemmas.List.Elements.{Contains-push}
 use Rattle.span_heap.specs.Changes.{whole_of, segment_of}
-use Rattle.span_heap.proofs.CountsAreKept.{IsKept-grown, pushed}
+use Rattle.span_heap.proofs.CountsAreKept.{IsSoundHeap-grown, pushed}
 use Rattle.span_heap.proofs.HeapOverTheTable.{kept_as, none_there, whole_lies, whole_fresh}
 use Rattle.span_heap.proofs.heap.Heap.grow.Goals as goal
 
@@ -48,7 +48,7 @@ invariant_of-self-2 c =
     (c.add_used.ensures.segments ∙ c.in_ok-grow.ensures.grown)
     (c.add_used.ensures.used ∙ ap (λ u. u ++ whole ∷ []) c.grow.ensures.used)
     (c.add_used.ensures.free ∙ c.grow.ensures.free)
-    (IsKept-grown h.table.segments h.table.used h.table.free _ c.args.segment c.args.pages h.pages h.free_pages c.self.invariant fresh (pushed h.table.used whole) c.requires.sized.0
+    (IsSoundHeap-grown h.table.segments h.table.used h.table.free _ c.args.segment c.args.pages h.pages h.free_pages c.self.invariant fresh (pushed h.table.used whole) c.requires.sized.0
     (omega (arith, small, c.self.invariant.size)))
 
 pub returns-clause-grown : goal.returns-clause-grown

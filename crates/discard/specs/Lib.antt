@@ -1,6 +1,0 @@
-pub mod ImageFile
-pub mod Outside
-pub mod Report
-pub mod ServeRun
-pub mod TileRun
-pub mod Top

@@ -1,8 +1,0 @@
-use Rattle.std.proofs.Common.{ℕ, ◌∷◌, heap_items}
-use Rattle.std.specs.declared.cmp.Reverse.{Reverse}
-use Rattle.std.proofs.lemmas.List.Sorted.{IsPermutation-map}
-use Rattle.lru_reduce.proofs.keys.Keys.push.Goals as goal
-
-pub returns-clause-keys : goal.returns-clause-keys
-returns-clause-keys c =
-    rw (← c.self.view_is) (IsPermutation-map (λ (r : Reverse (ℕ × ℕ)). r.0) (record { 0 = c.args.key } ∷ heap_items c.self.inside.heap) (heap_items c.push.new.self) c.in-Ok.ensures.permutation)

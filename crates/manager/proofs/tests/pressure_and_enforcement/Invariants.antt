@@ -1,6 +1,0 @@
-use Rattle.std.proofs.Common.{false}
-use Rattle.return_queue.specs.Name.{no_queue}
-use Rattle.manager.proofs.tests.pressure_and_enforcement.Given as goal
-
-abbrev pub ghosts-yields-F-Fixed : goal.ghosts-yields-F-Fixed
-ghosts-yields-F-Fixed g a = record { limit = a.state.limit; handed = a.state.entries; queue = no_queue; counts = false }

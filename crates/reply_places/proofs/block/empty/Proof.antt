@@ -1,0 +1,89 @@
+-- `empty` forgets the bytes. Assumes `Logic`.
+use Rattle.std.proofs.Common.{◌≡◌, List, [], ◌∷◌, ◌++◌, length, refl}
+use seplogic.Ra.Ura.{Ura}
+use mir.Syntax.{Fn}
+use mir.Val.{Val}
+use base.Logic.{SProp, ent, emp}
+use prog.Memory.{Memory}
+use prog.Routine.{Routine}
+use prog.Wp.{Calls, Loops, WpFn, Tables}
+use contract.Monad.{Fun, fact}
+use contract.Running.{tables, tables_of}
+use sound.WpLaws.{WpFn-mono}
+use types.Logic.{Logic}
+use types.Kit.{‵, raw, ◌⊛◌, prop, ◌$◌, ◌∵◌, !, qed, move, drop, use1, split, fsplit, fjoin, feq_l, regoal, suffices, done, flt_l}
+use types.Part.{agg}
+use types.Run.{enter, returns, and_then, no_more}
+use types.ByLocal.{alloc_all, pass_all, free_all, look_at, get, sets}
+use denote.Exit.{yes}
+use denote.RattleType.{owns}
+use denote.Signature.{plain, types_at}
+use denote.Steps.{nothing, heard}
+use denote.Triple.Clauses.{Clauses, Ended, closing}
+use denote.Triple.Entry.{alive}
+use denote.Triple.Spec.{Meets, triple_of}
+use denote.Triple.Table.{entered}
+use denote.Triple.Walked.{says, Stays, stay_dropped, walk_of, ends_at, walk_Meets}
+use Rattle.std.proofs.alloc.Calls.{Goes-blank}
+use Rattle.reply_places.proofs.Walks.{none, none_made, none_had}
+use Rattle.reply_places.specs.contracts.block.Filled as Filled
+use Rattle.reply_places.specs.contracts.block.Space as Space
+use Rattle.reply_places.specs.Ownership.{space_owns}
+use Rattle.reply_places.proofs.Spaces.{empty_filled}
+use Rattle.reply_places.specs.contracts.block.empty as F
+use Rattle.reply_places.specs.contracts.block.empty.Key.{name as #self}
+use Rattle.reply_places.proofs.block.empty.Statement as stated
+use Rattle.reply_places.proofs.block.empty.Code as code
+
+abbrev function : Fn
+function = code.function
+
+abbrev ended : Ended
+ended = F.ended
+
+abbrev stayed : Stays ended.signature.params ended.kept
+stayed = (stay_dropped (plain (λ _. Filled.the_row)) yes, tt)
+
+module _ {M : Type 1} {𝓤 : Ura M} (𝓛 : Logic 𝓤) (at_mem : Memory → SProp 𝓤) (run : Routine → Fun 𝓤) where
+  open 𝓛 use {H}
+
+  abbrev held : Clauses 𝓤 ended
+  held = F.clauses 𝓛 at_mem run
+
+  module _ (C : Calls 𝓤 H) (Λ : Loops 𝓤 H) (z : (walk_of 𝓛 ended stayed held).Ghost) where
+    abbrev Post : Val → SProp 𝓤
+    Post = (walk_of 𝓛 ended stayed held).post z
+
+    abbrev toks : SProp 𝓤
+    toks = alive 𝓛 ended.signature z.0.0 z.0.1
+
+    walks : ent 𝓤 ((walk_of 𝓛 ended stayed held).pre z) (WpFn 𝓤 H C Λ function ((walk_of 𝓛 ended stayed held).args z) Post)
+    walks =
+        let a = z.0.3 in
+        let vss = z.0.4 in
+        let s = a.0 in
+        let left : (Space.the_row).Denot = record { ptr = s.ptr; len = length s.items } in
+        qed 𝓛 ((raw toks ⊛ ‵ (owns (types_at ended.signature.params z.0.0) a vss)) ∷ raw (emp 𝓤) ∷ []) ∵
+        move ! (1 ∷ []) $ drop ! $ split ! $ move ! (1 ∷ []) $
+        fsplit ! $ fsplit ! $ none_had ! vss.0 (λ is₀. move ! (1 ∷ []) $ drop ! $
+        -- [the bytes; the tokens]
+        regoal ! (λ (us : List Val). prop (WpFn 𝓤 H C Λ function (us ++ []) Post)) is₀ refl $
+        enter ! C Λ function (none ∷ []) Post $ alloc_all ! (λ l. pass_all ! refl ((tt, tt), tt) $
+        sets ! (agg ! (no_more !)) refl (tt, tt) $
+        use1 𝓛 (‵ (space_owns s.ptr (length s.items))) (empty_filled 𝓛 s.ptr s.items) $
+        none_made ! $ fjoin ! $
+        returns ! (look_at ! 0 refl) $ free_all ! refl $
+        suffices ! _ (ends_at 𝓛 ended stayed held z none left (tt, tt) (tt, tt)) $ says ! (refl, refl) $
+        nothing ! $ nothing ! $ fjoin ! $ move ! (2 ∷ 0 ∷ 1 ∷ []) $ done !))
+
+  meets : (𝓣 : Tables 𝓤 H) → Meets 𝓛 ended.signature (WpFn 𝓤 H 𝓣.C 𝓣.Λ function) (closing 𝓛 ended held)
+  meets 𝓣 =
+      walk_Meets 𝓛 ended stayed (Goes-blank 𝓛 0 (plain (λ _. Filled.the_row)) yes (λ κs x f. tt), tt) held
+      (WpFn 𝓤 H 𝓣.C 𝓣.Λ function) (WpFn-mono 𝓤 H 𝓛.laws 𝓣 function) (walks 𝓣.C 𝓣.Λ)
+
+pub empty_spec : {M : Type 1} → stated.statement M
+unfolding tables_of
+empty_spec 𝓤 𝓛 𝓜 𝓡 wired =
+    let 𝓣 : Tables 𝓤 𝓛.H = tables_of 𝓤 𝓛.H 𝓜 (tables 𝓤 𝓛.H 𝓜 𝓡 𝓡.env) in
+    entered 𝓤 𝓛.H (triple_of 𝓛 ended.signature (closing 𝓛 ended (held 𝓛 𝓜.mem 𝓡.returns))) 𝓣.C 𝓣.Λ #self function
+    (code.unfolded 𝓤 𝓛.H 𝓜 𝓡 wired) (meets 𝓛 𝓜.mem 𝓡.returns 𝓣)

@@ -1,4 +1,0 @@
-pub mod Config
-pub mod Generated
-pub mod Reply
-pub mod Report
