@@ -1,5 +1,6 @@
 #!/usr/bin/env python3
-"""Runs the built program on the cases of tests/cases, and prints each that fails.
+"""Runs the built program on the cases of tests/cases, and prints each that fails. One case more is that what the documents name
+stands where they say (tests/clauses.py).
 
     python3 tests/run.py [TEXT]          all cases, or those whose name contains TEXT
     python3 tests/run.py --often [TEXT]  the same; a case of threads is run hundreds of times
@@ -22,6 +23,7 @@ TOP = os.path.dirname(os.path.dirname(os.path.abspath(__file__)))
 sys.path.insert(0, os.path.join(TOP, "tests"))
 
 import case_files  # noqa: E402
+import clauses  # noqa: E402
 import model  # noqa: E402
 
 NOBODY = 65534
@@ -216,6 +218,10 @@ def main():
     except case_files.Bad as error:
         sys.exit(str(error))
     counts = dict(passed=0, failed=0, skipped=0)
+    if pattern in "the documents":
+        wrong = clauses.faults()
+        print("".join(f"{it}\n" for it in wrong), end="", flush=True)
+        counts["failed" if wrong else "passed"] += 1
     with tempfile.TemporaryDirectory(prefix="discard-tests-") as room:
         os.chmod(room, 0o755)
         # A copy, where every user can reach it.
