@@ -158,7 +158,8 @@ impl<G: Granter + Drop> Granted<G> {
     pub fn bytes_mut(&mut self, piece: &Piece) -> &mut [u8]
         requires owned { Owns self.old.client piece.now }
         requires locked { piece.now.locked ≡ true }
-        ensures* writes_back { sem 𝓛 (LendsOwnPiece G.row G.Granter self.entry piece.now.run result) }
+        ensures* writes_back { sem 𝓛
+            (LendsOwnPiece G.row G.Granter self.entry piece.now.run result) }
         ensures value { result.now ≡ bytes_of self.old.client piece.now.run }
         ensures sized { length result.now ≡ PAGE * piece.now.run.pages }
         ensures only { WritesOnly piece.now self.old.client }

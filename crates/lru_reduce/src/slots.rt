@@ -142,7 +142,8 @@ impl Slot {
         requires moment { IsMoment now }
         ensures won { IfSome result (λ r. IfOk r (λ w.
             SlotWins w.pages w.known w.block self.old self.new)) }
-        ensures lost { IfSome result (λ r. IfErr r (λ known. SlotLoses now known self.old self.new)) }
+        ensures lost { IfSome result
+            (λ r. IfErr r (λ known. SlotLoses now known self.old self.new)) }
         ensures none { IfNone result ((self.old.side ≡ None) × (self.new ≡ self.old)) }
     {
         let Some(side) = &mut self.side else {

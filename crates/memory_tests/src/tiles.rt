@@ -61,9 +61,11 @@ fn ask<H: Threads + Wait + Sync>(
     requires tile { IsTile tile }
     requires moment { IsMoment now }
     requires size { maker.old.size ≡ 4096 }
-    requires used { IsUsedWith (λ (t : Square). replicate maker.old.size ((16 * t.z + t.x) % 256)) maker.old.size cache.old }
+    requires used { IsUsedWith
+        (λ (t : Square). replicate maker.old.size ((16 * t.z + t.x) % 256)) maker.old.size cache.old }
     ensures size { maker.new.size ≡ maker.old.size }
-    ensures used { IsUsedWith (λ (t : Square). replicate maker.old.size ((16 * t.z + t.x) % 256)) maker.old.size cache.new }
+    ensures used { IsUsedWith
+        (λ (t : Square). replicate maker.old.size ((16 * t.z + t.x) % 256)) maker.old.size cache.new }
 {
     if cache.heap_pages() >= 1_000_000 {
         return None;

@@ -49,7 +49,8 @@ impl PlainRun {
         requires client { IsClient client }
         requires size { IsPieceSize size }
         ensures reply { OnOk result ((state : ReplayState) → RunStandsFor self.old state
-            → reply.new.items ≡ reply.old.items ++ allocation_text state client (pages_for size) at) }
+            → reply.new.items ≡ reply.old.items
+            ++ allocation_text state client (pages_for size) at) }
         ensures state { OnOk result ((state : ReplayState) → RunStandsFor self.old state
             → RunStandsFor self.new (after_allocation state client (pages_for size) at)) }
         ensures more { OnOk result (vec_len self.old.entries ≤ vec_len self.new.entries) }
@@ -98,7 +99,8 @@ impl PlainRun {
     /// The pages that were picked are lost: their segment was purged, and leaves.
     fn lose_last(&mut self, client: u64) -> Result<(), NoMemory>
         ensures state { OnOk result ((state : ReplayState) (run : Run) (n : ℕ)
-            → RunStandsFor self.old (after_event (after_pick state client run n) (lock_of (front_of run n)))
+            → RunStandsFor self.old
+            (after_event (after_pick state client run n) (lock_of (front_of run n)))
             → has (holding_of state client) run.segment ≡ true
             → RunStandsFor self.new (after_loss state client run n)) }
         ensures more { OnOk result (vec_len self.old.entries ≤ vec_len self.new.entries) }
@@ -157,7 +159,8 @@ impl PlainRun {
         ensures run { IfOk result (λ run. (state : ReplayState) → RunStandsFor self.old state
             → run ≡ next_run (before_adoption state client pages at) pages) }
         ensures state { OnOk result ((state : ReplayState) → RunStandsFor self.old state
-            → RunStandsFor self.new (with_new_piece (before_adoption state client pages at) client pages at)) }
+            → RunStandsFor self.new
+            (with_new_piece (before_adoption state client pages at) client pages at)) }
         ensures more { OnOk result (vec_len self.old.entries ≤ vec_len self.new.entries) }
     {
         let whole = self.new_pages(pages);
@@ -375,9 +378,11 @@ impl PlainRun {
         reply: &mut Vec<u8>,
     ) -> Result<(), NoMemory>
         ensures reply { OnOk result ((state : ReplayState) → RunStandsFor self.old state
-            → reply.new.items ≡ reply.old.items ++ piece_text (piece_of state.heaps piece) (piece_lock_text state)) }
+            → reply.new.items ≡ reply.old.items
+            ++ piece_text (piece_of state.heaps piece) (piece_lock_text state)) }
         ensures state { OnOk result ((state : ReplayState) → RunStandsFor self.old state
-            → RunStandsFor self.new (on_piece (piece_of state.heaps piece) state (after_piece_lock state piece))) }
+            → RunStandsFor self.new
+            (on_piece (piece_of state.heaps piece) state (after_piece_lock state piece))) }
         ensures more { OnOk result (vec_len self.old.entries ≤ vec_len self.new.entries) }
     {
         match self.heaps.piece(piece) {
@@ -419,9 +424,11 @@ impl PlainRun {
         reply: &mut Vec<u8>,
     ) -> Result<(), NoMemory>
         ensures reply { OnOk result ((state : ReplayState) → RunStandsFor self.old state
-            → reply.new.items ≡ reply.old.items ++ piece_text (piece_of state.heaps piece) (piece_unlock_text state at)) }
+            → reply.new.items ≡ reply.old.items
+            ++ piece_text (piece_of state.heaps piece) (piece_unlock_text state at)) }
         ensures state { OnOk result ((state : ReplayState) → RunStandsFor self.old state
-            → RunStandsFor self.new (on_piece (piece_of state.heaps piece) state (after_piece_unlock state at))) }
+            → RunStandsFor self.new
+            (on_piece (piece_of state.heaps piece) state (after_piece_unlock state at))) }
         ensures more { OnOk result (vec_len self.old.entries ≤ vec_len self.new.entries) }
     {
         match self.heaps.piece(piece) {
@@ -459,9 +466,11 @@ impl PlainRun {
         requires place { IsBytePlace place }
         requires bytes { IsByteCount (length bytes.now) }
         ensures reply { OnOk result ((state : ReplayState) → RunStandsFor self.old state
-            → reply.new.items ≡ reply.old.items ++ piece_text (piece_of state.heaps piece) (piece_write_text state place bytes.now)) }
+            → reply.new.items ≡ reply.old.items ++ piece_text (piece_of state.heaps piece)
+            (piece_write_text state place bytes.now)) }
         ensures state { OnOk result ((state : ReplayState) → RunStandsFor self.old state
-            → RunStandsFor self.new (on_piece (piece_of state.heaps piece) state (after_piece_write state place bytes.now))) }
+            → RunStandsFor self.new (on_piece (piece_of state.heaps piece) state
+            (after_piece_write state place bytes.now))) }
         ensures more { OnOk result (vec_len self.old.entries ≤ vec_len self.new.entries) }
     {
         match self.heaps.piece(piece) {
@@ -507,7 +516,8 @@ impl PlainRun {
         requires place { IsBytePlace place }
         requires count { IsByteCount count }
         ensures reply { OnOk result ((state : ReplayState) → RunStandsFor self.old state
-            → reply.new.items ≡ reply.old.items ++ piece_text (piece_of state.heaps piece) (piece_read_text state place count)) }
+            → reply.new.items ≡ reply.old.items
+            ++ piece_text (piece_of state.heaps piece) (piece_read_text state place count)) }
         ensures state { OnOk result ((state : ReplayState) → RunStandsFor self.old state
             → RunStandsFor self.new (state)) }
         ensures more { OnOk result (vec_len self.old.entries ≤ vec_len self.new.entries) }
@@ -549,9 +559,11 @@ impl PlainRun {
         reply: &mut Vec<u8>,
     ) -> Result<(), NoMemory>
         ensures reply { OnOk result ((state : ReplayState) → RunStandsFor self.old state
-            → reply.new.items ≡ reply.old.items ++ piece_text (piece_of state.heaps piece) (piece_free_text state piece)) }
+            → reply.new.items ≡ reply.old.items
+            ++ piece_text (piece_of state.heaps piece) (piece_free_text state piece)) }
         ensures state { OnOk result ((state : ReplayState) → RunStandsFor self.old state
-            → RunStandsFor self.new (on_piece (piece_of state.heaps piece) state (after_piece_free state piece at))) }
+            → RunStandsFor self.new
+            (on_piece (piece_of state.heaps piece) state (after_piece_free state piece at))) }
         ensures more { OnOk result (vec_len self.old.entries ≤ vec_len self.new.entries) }
     {
         match self.heaps.piece(piece) {
@@ -606,7 +618,8 @@ impl PlainRun {
         reply: &mut Vec<u8>,
     ) -> Result<(), NoMemory>
         ensures reply { OnOk result ((state : ReplayState) → RunStandsFor self.old state
-            → reply.new.items ≡ reply.old.items ++ released_text state (after_release state client)) }
+            → reply.new.items ≡ reply.old.items
+            ++ released_text state (after_release state client)) }
         ensures state { OnOk result ((state : ReplayState) → RunStandsFor self.old state
             → RunStandsFor self.new (after_release state client)) }
         ensures more { OnOk result (vec_len self.old.entries ≤ vec_len self.new.entries) }

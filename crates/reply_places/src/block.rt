@@ -48,7 +48,8 @@ impl<A: Allocator> Move for Sole<A> {
 
 pub(crate) fn detach<A: Allocator>(vec: Vec<u8, A>) -> (Space, Sole<A>)
     requires { (vec.len ≡ 0) × (0 < vec.cap) }
-    ensures { (result.0.ptr ≡ vec.ptr) × (result.0.len ≡ vec.cap) × (result.1.ptr ≡ vec.ptr) × (result.1.len ≡ vec.cap) × IsPlaced vec.ptr }
+    ensures { (result.0.ptr ≡ vec.ptr) × (result.0.len ≡ vec.cap) × (result.1.ptr ≡ vec.ptr)
+        × (result.1.len ≡ vec.cap) × IsPlaced vec.ptr }
 {
     (Space {}, Sole { vec })
 }
@@ -65,7 +66,8 @@ pub(crate) fn attach<A: Allocator>(space: Space, sole: Sole<A>) -> Vec<u8, A>
 // Two spaces side by side.
 pub(crate) fn cut(space: Space, mid: usize) -> (Space, Space)
     requires { mid ≤ space.len }
-    ensures { (result.0.ptr ≡ space.ptr) × (result.0.len ≡ mid) × (result.1.ptr ≡ space.ptr +ₚ mid) × (result.1.len ≡ space.len - mid) }
+    ensures { (result.0.ptr ≡ space.ptr) × (result.0.len ≡ mid)
+        × (result.1.ptr ≡ space.ptr +ₚ mid) × (result.1.len ≡ space.len - mid) }
 {
     let Space {} = space;
     (Space {}, Space {})
@@ -102,7 +104,8 @@ pub(crate) fn join(front: Filled, back: Filled) -> Filled
 // A `Vec` over the filled bytes, which neither grows nor frees it.
 pub(crate) fn house_filled(ptr: *mut u8, len: usize, filled: Filled) -> Vec<u8, Lodged>
     requires { (filled.ptr ≡ ptr) × (length filled.items ≡ len) × (0 < len) × (len < 2 ^ 63) }
-    ensures { (result.items ≡ filled.items) × (result.len ≡ len) × (result.cap ≡ len) × (result.ptr ≡ ptr) }
+    ensures { (result.items ≡ filled.items) × (result.len ≡ len) × (result.cap ≡ len)
+        × (result.ptr ≡ ptr) }
 {
     let Filled {} = filled;
     unsafe { lodge(ptr, len, len) }

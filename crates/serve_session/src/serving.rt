@@ -177,7 +177,8 @@ impl<'a, C: Clock, T: Gate> Serving<'a, C, T> {
         ensures numbers { numbers_of places.new ≡ numbers_of places.old }
         ensures replies { OnOk result (AreAnswered self.now.tiling self.now.requests places.new) }
         ensures served { OnOk result ((granter : G) → HasServed self.now [] granter cache.old
-            → HasServed self.now (tiles_at self.now.requests (numbers_of places.old)) granter cache.new) }
+            → HasServed self.now
+            (tiles_at self.now.requests (numbers_of places.old)) granter cache.new) }
     {
         let mut maker = self.tiling.maker();
         for count in 0..places.len() {
@@ -216,7 +217,8 @@ impl<'a, C: Clock, T: Gate> Serving<'a, C, T> {
         ensures number { place.new.number ≡ place.old.number }
         ensures maker { Makes self.now.tiling maker.new }
         ensures reply { OnOk result (IsAnswered self.now.tiling self.now.requests place.new) }
-        ensures served { OnOk result (ServesOne self.now (tile_at self.now.requests place.old.number)
+        ensures served { OnOk result
+            (ServesOne self.now (tile_at self.now.requests place.old.number)
             cache.old cache.new) }
     {
         let tile = self.requests.as_slice()[place.number()].tile;

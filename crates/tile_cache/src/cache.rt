@@ -168,15 +168,20 @@ impl<G: Granter + Drop> Cache<G> {
         now: u64,
     ) -> Result<(Shown, &[u8]), NoMemory>
         requires tile { IsTile tile }
-        requires size { (1 ≤ M.tile_length maker.old) × (M.tile_length maker.old ≤ MOST_PAGES * PAGE) }
+        requires size { (1 ≤ M.tile_length maker.old)
+            × (M.tile_length maker.old ≤ MOST_PAGES * PAGE) }
         requires used { IsUsedWith (M.tile_of maker.old) (M.tile_length maker.old) self.old }
         requires small { size_of self.old.session.client.heap.segments + MOST_PAGES < 2 ^ 32 }
         requires moment { IsMoment now }
-        ensures* after { sem 𝓛 (follows_so (the_row G.row G.Granter) (the_row G.row G.Granter) self.entry.ghost_name none (λ _ _. ⊤)
-            (λ new. MatchResult result (λ r. Gets tile r.0 self.old new × Lent tile r.1.now new) (λ _. Fails tile self.old new)
+        ensures* after { sem 𝓛 (follows_so
+            (the_row G.row G.Granter) (the_row G.row G.Granter) self.entry.ghost_name none (λ _ _. ⊤)
+            (λ new. MatchResult result
+            (λ r. Gets tile r.0 self.old new × Lent tile r.1.now new)
+            (λ _. Fails tile self.old new)
             × IsUsedWith (M.tile_of maker.old) (M.tile_length maker.old) new)) }
         ensures bytes { IfOk result (λ r. r.1.now ≡ M.tile_of maker.old tile) }
-        ensures made { MatchResult result (λ r. M.made maker.new ≡ made_after r.0 (M.made maker.old))
+        ensures made { MatchResult result
+            (λ r. M.made maker.new ≡ made_after r.0 (M.made maker.old))
             (λ _. M.made maker.new ≡ M.made maker.old) }
         ensures same_tiles { M.tile_of maker.new ≡ M.tile_of maker.old }
         ensures same_size { M.tile_length maker.new ≡ M.tile_length maker.old }
@@ -195,7 +200,8 @@ impl<G: Granter + Drop> Cache<G> {
         now: u64,
     ) -> Result<Shown, NoMemory>
         requires tile { IsTile tile }
-        requires size { (1 ≤ M.tile_length maker.old) × (M.tile_length maker.old ≤ MOST_PAGES * PAGE) }
+        requires size { (1 ≤ M.tile_length maker.old)
+            × (M.tile_length maker.old ≤ MOST_PAGES * PAGE) }
         requires used { IsUsedWith (M.tile_of maker.old) (M.tile_length maker.old) self.old }
         requires small { size_of self.old.session.client.heap.segments + MOST_PAGES < 2 ^ 32 }
         requires moment { IsMoment now }
@@ -203,7 +209,8 @@ impl<G: Granter + Drop> Cache<G> {
         ensures lent { OnOk result (Lent tile (M.tile_of maker.old tile) self.new) }
         ensures fails { OnErr result (Fails tile self.old self.new) }
         ensures used { IsUsedWith (M.tile_of maker.old) (M.tile_length maker.old) self.new }
-        ensures made { MatchResult result (λ told. M.made maker.new ≡ made_after told (M.made maker.old))
+        ensures made { MatchResult result
+            (λ told. M.made maker.new ≡ made_after told (M.made maker.old))
             (λ _. M.made maker.new ≡ M.made maker.old) }
         ensures same_tiles { M.tile_of maker.new ≡ M.tile_of maker.old }
         ensures same_size { M.tile_length maker.new ≡ M.tile_length maker.old }
