@@ -125,21 +125,13 @@ fn work<Q: Granter + Drop, H: Threads + Wait + Sync>(
     Ok(Worked { right, grants })
 }
 
-/// Two clients in threads of their own use more than the limit.
-fn two_clients<F, G, E, H>(
+/// Two clients in threads of their own, over granters that share the limit, use more than it.
+fn two_clients<Q: Granter + Drop + Send, H: Threads + Wait + Sync>(
     rt: &H,
     alloc: Global,
-    manager: &Manager<PlainReturns, F, G, E>,
-) -> Result<(Worked, Worked), NoMemory>
-where
-    F: Fixed + Send + Sync,
-    G: Ledger + Send + Sync,
-    E: Ledger + Send + Sync,
-    H: Threads + Wait + Sync,
-    requires { F.counts ≡ false }
-{
-    let one = manager.handle();
-    let two = manager.handle();
+    one: Q,
+    two: Q,
+) -> Result<(Worked, Worked), NoMemory> {
     let (one, two) = thread::join(
         rt,
         move || -> Result<Worked, NoMemory> { work(rt, alloc, one, 2) },
@@ -166,7 +158,7 @@ where
 {
     let manager = Manager::<PlainReturns, F, G, E>::new(state);
     let alone = one_client(rt, alloc, &manager)?;
-    let together = two_clients(rt, alloc, &manager)?;
+    let together = two_clients(rt, alloc, manager.handle(), manager.handle())?;
     let (_returns, pass, _taker) = PlainReturns::new();
     let drained = manager.drain(rt, pass);
     Ok((alone, together, drained, manager.finish()))
