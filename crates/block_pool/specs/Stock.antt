@@ -1,18 +1,19 @@
 -- Pools: what is seen of one, and what each call makes of it.
-use Rattle.std.specs.Prelude.{ℕ, ◌==◌, nat_lt, Bool, if◌then◌else◌, List, [], ◌∷◌, ◌++◌, length}
+use Rattle.std.specs.Prelude.{ℕ, ◌+◌, ◌-◌, ◌^◌, ◌==◌, nat_lt, min, Bool, if◌then◌else◌, List, [], ◌∷◌, ◌++◌, length}
 use Rattle.std.specs.List.{list_any}
 use Rattle.units.specs.Count.{next_count}
 
 -- what is seen of a pool: the pages of each block that it keeps, the oldest first, how many blocks
--- it may keep, and how many it made
+-- it may keep, how many it made, and how many pages were put, kept or not
 pub record Stock : Type 0 where
   pub kept : List ℕ
   pub keep : ℕ
   pub made : ℕ
+  pub pages_put : ℕ
 
 -- a pool that has made no block, and may keep some
 abbrev pub no_blocks : ℕ → Stock
-no_blocks keep = record { kept = []; keep = keep; made = 0 }
+no_blocks keep = record { kept = []; keep = keep; made = 0; pages_put = 0 }
 
 -- a block of these pages is kept
 abbrev pub is_kept : ℕ → List ℕ → Bool
@@ -37,9 +38,10 @@ abbrev pub after_take : ℕ → Stock → Stock
 after_take pages stock =
     if is_kept pages stock.kept then without_block pages stock else with_one_made stock
 
--- the pool after a block of these pages was put: it is kept last where fewer than `keep` are kept,
--- and else dropped
+-- The pool after a block of these pages was put: it is kept last where fewer than `keep` are kept, and else let go. Its pages
+-- are counted in either case; the sum stands still at the last value of u64.
 abbrev pub after_put : ℕ → Stock → Stock
-after_put pages stock =
-    if nat_lt (length stock.kept) stock.keep then record stock { kept = stock.kept ++ pages ∷ [] }
-    else stock
+after_put pages stock = record stock {
+  kept = if nat_lt (length stock.kept) stock.keep then stock.kept ++ pages ∷ [] else stock.kept;
+  pages_put = min (stock.pages_put + pages) (2 ^ 64 - 1);
+}

@@ -10,13 +10,14 @@ use std::marker::Model;
 use units::NoMemory;
 
 /// Blocks that nobody else has, all of them wiped, for the next who asks. It keeps at most as many
-/// as it was made for, and counts the blocks that it made.
+/// as it was made for, and counts the blocks that it made and the pages that were put.
 #[derive(Debug, Drop)]
 pub struct Pool {
     /// The oldest first.
     kept: VecDeque<Block>,
     keep: u32,
     made: u64,
+    pages_put: u64,
 }
 
 impl Model for Pool {
@@ -31,6 +32,7 @@ impl Model for Pool {
       kept = map page_count p.kept.items;
       keep = p.keep;
       made = p.made;
+      pages_put = p.pages_put;
     } };
 
     // Every kept block is wiped, and there is room for as many as may be kept.
@@ -55,6 +57,7 @@ impl Pool {
             kept: VecDeque::with_capacity(alloc, keep as usize)?,
             keep,
             made: 0,
+            pages_put: 0,
         })
     }
 
@@ -71,6 +74,14 @@ impl Pool {
         ensures { result ≡ self.now.made }
     {
         self.made
+    }
+
+    /// How many pages the blocks had that were put, kept or not, or the last value of u64 once they had
+    /// more. A block that is let go in place of being put is missing here, whether the pool is full or not.
+    pub fn pages_put(&self) -> u64
+        ensures { result ≡ self.now.pages_put }
+    {
+        self.pages_put
     }
 
     /// Whether it keeps a block of `pages` pages, so that `take` would make none.
@@ -121,10 +132,12 @@ impl Pool {
         Ok(block)
     }
 
-    /// Wipes a block and keeps it last, where fewer than `keep` are kept. Else it drops the block.
+    /// Counts a block's pages, wipes it and keeps it last, where fewer than `keep` are kept. Else it drops
+    /// the block.
     pub fn put(&mut self, mut block: Block)
         ensures { self.new ≡ after_put (page_count block) self.old }
     {
+        self.pages_put = self.pages_put.saturating_add(u64::from(block.pages()));
         if self.kept.len() < self.keep as usize {
             block.wipe();
             self.kept.push_back_reserved(block);

@@ -32,7 +32,7 @@ fn a_kept_block_comes_back_wiped(rt: HostRuntime) -> Result<(), Fail> {
     assert!(rt; format!(in rt.alloc(); "{two:?}")?.as_str() == "Block { pages: 2, .. }");
     pool.put(one);
     pool.put(two);
-    assert!(rt; counts(&pool, 1, 2));
+    assert!(rt; counts(&pool, 1, 2) && pool.pages_put() == 4);
     let kept = pool.take(rt.alloc(), 1)?;
     assert!(rt; kept.pages() == 1 && counts(&pool, 0, 2));
     Ok(())

@@ -11,7 +11,7 @@ use Rattle.machine.specs.History.{History, is_begun, pages_of, is_ended, is_gone
 use Rattle.machine.specs.Answers.{answered, answered_after, answer_of, is_plain, is_live, can_lock, can_unlock, can_write, can_try, staying, tried, granted_numbers, live}
 use Rattle.machine.specs.Word as WordState
 use Rattle.machine.specs.Word.{word_of, state_after, some_held}
-use Rattle.machine.specs.Reduction.{Candidate, use_of, comes_first, least_of, least, is_late, has_ended, without, known_at, with_known, after_try, candidates, is_owners, reduced, Reduces, IsReduction, IsReduced}
+use Rattle.machine.specs.Reduction.{Candidate, use_of, comes_first, least_of, least, is_late, has_ended, without, known_at, with_known, after_try, candidates, is_owners, reduced, word_found, words_found, Reduces, IsReduction, IsReduced}
 use Rattle.machine.proofs.Later.{answered_append}
 use Rattle.machine.proofs.Counts.{live_parts, drawn}
 
@@ -326,32 +326,43 @@ reduces_ends limit now h cs (e ∷ events) moment same (inr (going, (c, is_least
     ∙ ap (λ x. candidates ((x, answer_of h x) ∷ h)) (sym tries))
     rest
 
--- the words that the tries found leave the segments that are live at the end
+-- an owner's event finds no word
+owners_find_none : (h : History) (e : Event) → is_owners e ≡ true → word_found h e ≡ []
+owners_find_none h (Lock s first count) owns = refl
+owners_find_none h (Unlock s first count at) owns = refl
+owners_find_none h (Write s place bytes) owns = refl
+owners_find_none h (Grant s client pages) owns = refl
+owners_find_none h (Try s now) owns = absurd (false≢true owns)
+owners_find_none h (Back s) owns = refl
+
+-- the words that the tries find leave the segments that are live at the end
 reduces_words : (limit now : ℕ) (h : History) (cs : List Candidate) (events : List Event) → IsMoment now → cs ≡ candidates h
-    → Reduces limit now h cs events → (words : List ℕ) × (reduced limit now cs words ≡ Some (candidates (answered_after h events)))
+    → Reduces limit now h cs events → reduced limit now cs (words_found h events) ≡ Some (candidates (answered_after h events))
 unfolding answered_after reduced
-reduces_words limit now h cs [] moment same ends = ([], ap (λ b. cond b (Some cs) None) ends ∙ ap (λ l. Some l) same)
+reduces_words limit now h cs [] moment same ends = ap (λ b. cond b (Some cs) None) ends ∙ ap (λ l. Some l) same
 reduces_words limit now h cs (e ∷ events) moment same (inl owns) =
-    reduces_words limit now ((e, answer_of h e) ∷ h) cs events moment (same ∙ sym (owners_same h e owns.0)) owns.1
+    ap (λ (found : List ℕ). reduced limit now cs (found ++ words_found ((e, answer_of h e) ∷ h) events)) (owners_find_none h e owns.0)
+    ∙ reduces_words limit now ((e, answer_of h e) ∷ h) cs events moment (same ∙ sym (owners_same h e owns.0)) owns.1
 reduces_words limit now h cs (e ∷ events) moment same (inr (going, (c, is_least, tries, rest))) =
     let word = word_of (state_after h c.id) in
+    let later = words_found ((e, answer_of h e) ∷ h) events in
     let stands : StandsLive h c = least_each (StandsLive h) cs c (subst (Each (StandsLive h)) (sym same) (all_live h (granted_numbers h))) is_least in
     let more = reduces_words limit now ((e, answer_of h e) ∷ h) (after_try now word c cs) events moment
     (ap (λ d. after_try now word d cs) stands.1
     ∙ sym (try_step h c.id now cs same stands.0 (moment_is now moment))
     ∙ ap (λ x. candidates ((x, answer_of h x) ∷ h)) (sym tries))
-    rest in (
-      word ∷ more.0,
-      ap (λ b. cond b None (option_and_then (λ d. reduced limit now (after_try now word d cs) more.0) (least cs))) going
-          ∙ ap (λ o. option_and_then (λ d. reduced limit now (after_try now word d cs) more.0) o) is_least ∙ more.1,
-    )
+    rest in
+    ap (λ (found : List ℕ). reduced limit now cs (found ++ later)) (ap (word_found h) tries)
+    ∙ ap (λ b. cond b None (option_and_then (λ d. reduced limit now (after_try now word d cs) later) (least cs))) going
+    ∙ ap (λ o. option_and_then (λ d. reduced limit now (after_try now word d cs) later) o) is_least
+    ∙ more
 
 pub reduction_leaves : (before events : List Event) (limit now : ℕ) → IsMoment now → IsReduction before limit now events
-    → (words : List ℕ) × (reduced limit now (candidates (answered before)) words ≡ Some (candidates (answered (before ++ events))))
+    → reduced limit now (candidates (answered before)) (words_found (answered before) events) ≡ Some (candidates (answered (before ++ events)))
 unfolding answered_after
 reduction_leaves before events limit now moment reduces =
-    let found = reduces_words limit now (answered before) (candidates (answered before)) events moment refl reduces in
-    (found.0, found.1 ∙ ap (λ g. Some (candidates g)) (sym (answered_append [] before events)))
+    reduces_words limit now (answered before) (candidates (answered before)) events moment refl reduces
+    ∙ ap (λ g. Some (candidates g)) (sym (answered_append [] before events))
 
 pub reduction_ends : (before events : List Event) (limit now : ℕ) → IsMoment now → IsReduction before limit now events → IsReduced (before ++ events) limit now
 unfolding answered_after

@@ -110,8 +110,17 @@ abbrev pub IsReduced : List Event → ℕ → ℕ → Type 0
 IsReduced events limit now =
     (granted events ≤ limit) ⊎ ((s : ℕ) → live events s ≡ true → now ≤ unwrap_or (known events s) 0)
 
+-- the word that an event finds, where it is a try: that of its segment then
+abbrev pub word_found : History → Event → List ℕ
+word_found h (Try s now) = word_of (state_after h s) ∷ []
+word_found h _ = []
+
+-- the words that the tries of these events find after a history, in their order
+abbrev pub words_found : History → List Event → List ℕ
+words_found h [] = []
+words_found h (e ∷ events) = word_found h e ++ words_found ((e, answer_of h e) ∷ h) events
+
 -- the words that its tries found leave exactly the segments that are live after it
 abbrev pub LeavesLive : List Event → ℕ → ℕ → List Event → Type 0
 LeavesLive before limit now events =
-    (words : List ℕ)
-    × (reduced limit now (candidates (answered before)) words ≡ Some (candidates (answered (before ++ events))))
+    reduced limit now (candidates (answered before)) (words_found (answered before) events) ≡ Some (candidates (answered (before ++ events)))

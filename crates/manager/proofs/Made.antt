@@ -26,9 +26,11 @@ is_kept-append pages (k ∷ kept) p e =
     e
 
 put_stays : (pages p : ℕ) (stock : Stock) → Stays pages stock (after_put p stock)
-put_stays pages p stock =
-    elim (nat_lt (length stock.kept) stock.keep) as (λ b. Stays pages stock (if b then record stock { kept = stock.kept ++ p ∷ [] } else stock))
-    [ true ↦ record { made = refl; kept = is_kept-append pages stock.kept p } | false ↦ record { made = refl; kept = λ e. e } ]
+put_stays pages p stock = record {
+  made = refl;
+  kept = elim (nat_lt (length stock.kept) stock.keep) as (λ b. is_kept pages stock.kept ≡ true → is_kept pages (if b then stock.kept ++ p ∷ [] else stock.kept) ≡ true)
+      [ true ↦ is_kept-append pages stock.kept p | false ↦ λ e. e ];
+}
 
 then_stays : (pages : ℕ) (a b c : Stock) → Stays pages a b → Stays pages b c → Stays pages a c
 then_stays pages a b c first second = record { made = second.made ∙ first.made; kept = λ e. second.kept (first.kept e) }

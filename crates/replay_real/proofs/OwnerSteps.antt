@@ -25,7 +25,7 @@ use Rattle.replay_real.specs.Owner.{left_in, is_lost, kept_by, LocksIn, IsOwner,
 
 -- a segment that was just granted
 pub shows_new : (h : History) (s client : ℕ) (side : Owned) (locks : List Bool) → IsUnknown h s → IsGranted side.pages side
-    → side ≡ new_owner side.id side.bytes → IsAllLocked locks side.pages
+    → side ≡ new_owner side.table side.id side.bytes → IsAllLocked locks side.pages
     → Shows ((Grant s client side.pages, Granted s) ∷ h) s (kept_by side locks)
 shows_new h s client side locks w granted fresh all =
     shows_grant h s client side.pages (kept_by side locks) w all.size all.each

@@ -43,7 +43,7 @@ impl Owner {
     pub(crate) fn new(alloc: Global, side: OwnerSide) -> Result<Owner, NoMemory>
         requires some { 1 ≤ side.pages }
         requires granted { IsGranted side.pages side }
-        requires fresh { side ≡ new_owner side.id side.bytes }
+        requires fresh { side ≡ new_owner side.table side.id side.bytes }
         ensures { IfOk result (λ owner. (h : History) (s client : ℕ) → IsUnknown h s
             → Shows ((event.Grant s client side.pages, answer.Granted s) ∷ h) s owner) }
     {

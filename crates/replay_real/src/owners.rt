@@ -141,7 +141,7 @@ impl Owners {
     ) -> Result<(), NoMemory>
         requires some { 1 ≤ side.pages }
         requires granted { IsGranted side.pages side }
-        requires fresh { side ≡ new_owner side.id side.bytes }
+        requires fresh { side ≡ new_owner side.table side.id side.bytes }
         ensures shows { OnOk result ((h : History) (id to : ℕ) → ShowsEach h self.old
             → id ≡ length self.old
             → ShowsEach ((event.Grant id to side.pages, answer.Granted id) ∷ h) self.new) }

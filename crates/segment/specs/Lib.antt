@@ -1,5 +1,6 @@
 pub mod Owned
 pub mod Warded
 pub mod Ends
+pub mod Found
 pub mod Lending
 pub mod Tries

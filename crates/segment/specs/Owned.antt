@@ -5,14 +5,17 @@ use Rattle.block_pool.specs.Block.{page_count, IsZero}
 use Rattle.segment_rule.specs.declared.view.Stage.{Stage}
 use Rattle.segment_rule.specs.declared.view.Stage.TheVariants as stage
 use Rattle.segment_rule.specs.declared.view.OwnerView.{OwnerView}
+pub use Rattle.segment_rule.specs.Seats.{TableId}
 use Rattle.segment.specs.declared.owner.Phase.{Phase}
 use Rattle.segment.specs.declared.owner.Phase.TheVariants.{Held, Idle, Gone}
 use Rattle.segment.specs.declared.owner.Lock.{Lock}
 use Rattle.segment.specs.declared.owner.Lock.TheVariants as answer
 
--- What is seen of an owner's side: its number and pages, its phase, the stamp of its last unlock and the bytes left then,
--- its block's bytes while it holds, and how many steps it has made on the word.
+-- What is seen of an owner's side: the table that its segment's word and home stand in, which only its own warden shares; its
+-- number and pages, its phase, the stamp of its last unlock and the bytes left then, its block's bytes while it holds, and how
+-- many steps it has made on the word.
 pub record Owned : Type 0 where
+  pub table : TableId
   pub id : ℕ
   pub pages : ℕ
   pub phase : Phase
@@ -21,9 +24,9 @@ pub record Owned : Type 0 where
   pub bytes : List ℕ
   pub steps : ℕ
 
--- a new side, which holds this block
-abbrev pub new_owner : ℕ → List ℕ → Owned
-new_owner id block = record { id = id; pages = page_count block; phase = Held; last = 0; left = []; bytes = block; steps = 0 }
+-- a new side at a table, which holds this block
+abbrev pub new_owner : TableId → ℕ → List ℕ → Owned
+new_owner table id block = record { table = table; id = id; pages = page_count block; phase = Held; last = 0; left = []; bytes = block; steps = 0 }
 
 -- the bytes of the block in its hand, if there is one
 abbrev pub bytes_of : Option (List ℕ) → List ℕ
@@ -49,6 +52,7 @@ pub record IsOwned (seat : OwnerView) (block : Option (List ℕ)) (id pages : �
   pub least : 1 ≤ pages
   pub most : pages ≤ MOST_PAGES
   pub stage : seat.phase ≡ stage_of phase
+  pub apart : seat.apart ≡ true
   pub stamp : seat.last ≡ last
   pub timely : last ≤ LAST_MOMENT
   pub holds : HasBlock phase pages block

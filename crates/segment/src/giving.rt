@@ -1,4 +1,5 @@
 ghost use Rattle.segment.specs.Ends.{GivesUp};
+ghost use Rattle.segment.specs.Found.{GivingFinds};
 
 use crate::owner::{Lock, OwnerSide, Phase};
 use block_pool::Block;
@@ -17,7 +18,8 @@ impl OwnerSide {
     /// is made: the block comes back, or the side is gone exactly where that step found it purged.
     /// From Gone no step is made.
     pub fn give_up(mut self) -> GiveUp
-        ensures { GivesUp self.phase self result }
+        ensures after { GivesUp self.phase self result }
+        ensures found { GivingFinds self.phase self result }
     {
         match self.phase() {
             Phase::Held => GiveUp::Whole(self.into_block()),

@@ -1,6 +1,7 @@
 ghost use Rattle.std.specs.Prelude.{◌≡◌, ◌≢◌, ◌≤◌, ◌+◌, Some, [], length, take, drop};
 ghost use Rattle.std.specs.Borrow.{sem};
 ghost use Rattle.units.specs.Moment.{IsMoment};
+ghost use Rattle.segment.specs.Found.{LockFinds, LookFinds};
 ghost use Rattle.segment.specs.Owned.{Owned, IsOwned, AfterLock, after_unlock, AfterLook, HasPages};
 ghost use Rattle.segment.specs.declared.owner.Phase.TheVariants.{Held, Idle, Gone};
 
@@ -51,16 +52,17 @@ impl Model for OwnerSide {
     ghost Value = { Owned };
 
     ghost view = { λ s. record {
+      table = s.seat.table;
       id = s.id;
       pages = s.pages;
       phase = s.phase;
       last = s.last;
-      left = s.seat.left;
+      left = s.seat.known.left;
       bytes = bytes_of s.block;
-      steps = s.seat.steps;
+      steps = s.seat.known.steps;
     } };
 
-    ghost invariant = { λ s. IsOwned s.seat s.block s.id s.pages s.phase s.last };
+    ghost invariant = { λ s. IsOwned s.seat.known s.block s.id s.pages s.phase s.last };
 }
 
 impl OwnerSide {
@@ -68,15 +70,16 @@ impl OwnerSide {
 
     /// A side that holds this block.
     pub(crate) fn held(seat: OwnerSeat, block: Block, id: u64, pages: u32) -> OwnerSide
-        requires { IsOwned seat (Some block) id pages Held 0 }
+        requires { IsOwned seat.known (Some block) id pages Held 0 }
         ensures { result ≡ record {
+          table = seat.table;
           id = id;
           pages = pages;
           phase = Held;
           last = 0;
-          left = seat.left;
+          left = seat.known.left;
           bytes = block;
-          steps = seat.steps;
+          steps = seat.known.steps;
         } }
     {
         OwnerSide {
@@ -122,7 +125,8 @@ impl OwnerSide {
     /// Gone it makes none.
     pub fn lock(&mut self) -> Lock
         requires { self.old.phase ≢ Held }
-        ensures { AfterLock self.old.phase result self.old self.new }
+        ensures after { AfterLock self.old.phase result self.old self.new }
+        ensures found { LockFinds self.old.phase result self.old self.new }
     {
         if self.phase == Phase::Gone {
             return Lock::Gone;
@@ -152,7 +156,8 @@ impl OwnerSide {
     /// Whether the segment was not purged yet. From Idle it makes one step, and the segment is gone
     /// exactly where that step found it purged; from Held and Gone it makes none.
     pub fn resident(&mut self) -> bool
-        ensures { AfterLook self.old.phase result self.old self.new }
+        ensures after { AfterLook self.old.phase result self.old self.new }
+        ensures found { LookFinds self.old.phase result self.old self.new }
     {
         match self.phase {
             Phase::Held => true,

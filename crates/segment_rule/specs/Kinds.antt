@@ -1,6 +1,7 @@
 -- The kinds of step on a segment: each is a relation of the segment before and after, and tells where the block goes.
 use Rattle.std.specs.Prelude.{◌≡◌, ◌≢◌, ◌⊎◌, ℕ, ◌*◌, ◌≤◌, true, false, List, length, Some, None}
-use Rattle.atomic_table.specs.Table.{Act, keeps, takes, gives}
+pub use Rattle.atomic_table.specs.Table.{Act}
+use Rattle.atomic_table.specs.Table.{keeps, takes, gives}
 use Rattle.units.specs.declared.TheConstants.{PAGE}
 use Rattle.units.specs.Moment.{IsMoment}
 use Rattle.machine.specs.Word.{word_of}

@@ -6,7 +6,7 @@ ghost use Rattle.segment_rule.specs.declared.view.Stage.TheVariants.{Held, Idle}
 ghost use Rattle.segment_rule.specs.Views.{owner_holds, owner_loses, owner_rests, owner_stays, fresh_warden, expected_word};
 ghost use Rattle.segment_rule.specs.Kinds.{made};
 ghost use Rattle.segment_rule.specs.Kinds as kinds;
-ghost use Rattle.segment_rule.specs.Seats.{OwnerMakes, WardenMakes, AfterTry};
+ghost use Rattle.segment_rule.specs.Seats.{OwnerMakes, WardenMakes, AfterTry, knowing};
 
 use crate::rule::{Owned, Place};
 use crate::steps;
@@ -28,11 +28,11 @@ pub struct OwnerSeat {
 impl Model for OwnerSeat {
     ghost use Rattle.std.specs.Arc.{arc_value};
     ghost use Rattle.segment_rule.specs.declared.view.OwnerView.{OwnerView};
-    ghost use Rattle.segment_rule.specs.Seats.{owner_of, IsOwner};
+    ghost use Rattle.segment_rule.specs.Seats.{owner_of, IsOwner, Seated};
 
-    ghost Value = { OwnerView };
+    ghost Value = { Seated OwnerView };
 
-    ghost view = { λ s. owner_of s.seat.me.0 };
+    ghost view = { λ s. record { table = s.seat.table_id; known = owner_of s.seat.me.0 } };
 
     ghost invariant = { λ s.
         IsOwner (arc_value s.table).shared.table_id s.seat.table_id s.seat.me };
@@ -48,21 +48,22 @@ pub struct WardenSeat {
 impl Model for WardenSeat {
     ghost use Rattle.std.specs.Arc.{arc_value};
     ghost use Rattle.segment_rule.specs.declared.view.WardenView.{WardenView};
-    ghost use Rattle.segment_rule.specs.Seats.{warden_of, IsWarden};
+    ghost use Rattle.segment_rule.specs.Seats.{warden_of, IsWarden, Seated};
 
-    ghost Value = { WardenView };
+    ghost Value = { Seated WardenView };
 
-    ghost view = { λ s. warden_of s.seat.me.0 };
+    ghost view = { λ s. record { table = s.seat.table_id; known = warden_of s.seat.me.0 } };
 
     ghost invariant = { λ s.
         IsWarden (arc_value s.table).shared.table_id s.seat.table_id s.seat.me };
 }
 
 /// The two seats of a new segment with this number and so many pages: its owner holds it, and its
-/// warden has tried nothing.
+/// warden has tried nothing. Both sit at one table.
 pub fn make(alloc: Global, id: u64, pages: u32) -> Result<(OwnerSeat, WardenSeat), NoMemory>
-    ensures owner { IfOk result (λ seats. seats.0 ≡ (made id pages).owner) }
-    ensures warden { IfOk result (λ seats. seats.1 ≡ (made id pages).warden) }
+    ensures owner { IfOk result (λ seats. seats.0.known ≡ (made id pages).owner) }
+    ensures warden { IfOk result (λ seats. seats.1.known ≡ (made id pages).warden) }
+    ensures one { IfOk result (λ seats. seats.1.table ≡ seats.0.table) }
 {
     let (table, mut seat) = open(alloc, id, pages)?;
     let mine = Arc::new(alloc, table)?;
@@ -82,25 +83,29 @@ impl OwnerSeat {
     /// Locks an idle segment by one exchange. It answers true and lays the block with the bytes left
     /// into the hand, or answers false exactly where it found the purged word.
     pub fn lock(&mut self, last: u64, hand: &mut Option<Block>) -> bool
-        requires idle { self.old.phase ≡ Idle }
-        requires last { last ≡ self.old.last }
+        requires idle { self.old.known.phase ≡ Idle }
+        requires last { last ≡ self.old.known.last }
         requires free { hand.old ≡ None }
-        ensures made { OwnerMakes kinds.Locks self.old self.new }
+        ensures made { OwnerMakes kinds.Locks self.old.known self.new.known }
         ensures told { MatchBool result
-            ((hand.new ≡ Some self.old.left) × (self.new ≡ owner_holds self.old))
-            ((hand.new ≡ None) × (self.new ≡ owner_loses self.old)) }
-        ensures sized { length self.old.left ≡ PAGE * self.old.pages }
+            ((hand.new ≡ Some self.old.known.left)
+            × (self.new ≡ knowing self.old (owner_holds self.old.known)))
+            ((hand.new ≡ None) × (self.new ≡ knowing self.old (owner_loses self.old.known))) }
+        ensures sized { length self.old.known.left ≡ PAGE * self.old.known.pages }
     {
         steps::lock(&self.table.shared, &mut self.seat, last, hand)
     }
 
     /// Unlocks a held segment by one exchange, and lays the block in the hand down.
     pub fn unlock(&mut self, stamp: u64, hand: &mut Option<Block>)
-        requires held { self.old.phase ≡ Held }
-        requires stamp { IsMoment stamp × (self.old.last ≤ stamp) }
-        requires block { (b : List ℕ) × (hand.old ≡ Some b) × (length b ≡ PAGE * self.old.pages) }
-        ensures made { IfSome hand.old (λ b. OwnerMakes (kinds.Unlocks stamp b) self.old self.new) }
-        ensures told { IfSome hand.old (λ b. self.new ≡ owner_rests stamp b self.old) }
+        requires held { self.old.known.phase ≡ Held }
+        requires stamp { IsMoment stamp × (self.old.known.last ≤ stamp) }
+        requires block { (b : List ℕ) × (hand.old ≡ Some b)
+            × (length b ≡ PAGE * self.old.known.pages) }
+        ensures made { IfSome hand.old
+            (λ b. OwnerMakes (kinds.Unlocks stamp b) self.old.known self.new.known) }
+        ensures told { IfSome hand.old
+            (λ b. self.new ≡ knowing self.old (owner_rests stamp b self.old.known)) }
         ensures empty { hand.new ≡ None }
     {
         steps::unlock(&self.table.shared, &mut self.seat, stamp, hand);
@@ -109,10 +114,11 @@ impl OwnerSeat {
     /// Looks at the word of an idle segment by one load: false exactly where it found the purged
     /// word.
     pub fn look(&mut self) -> bool
-        requires { self.old.phase ≡ Idle }
-        ensures made { OwnerMakes kinds.Looks self.old self.new }
+        requires { self.old.known.phase ≡ Idle }
+        ensures made { OwnerMakes kinds.Looks self.old.known self.new.known }
         ensures told { MatchBool result
-            (self.new ≡ owner_stays self.old) (self.new ≡ owner_loses self.old) }
+            (self.new ≡ knowing self.old (owner_stays self.old.known))
+            (self.new ≡ knowing self.old (owner_loses self.old.known)) }
     {
         steps::look(&self.table.shared, &mut self.seat)
     }
@@ -122,11 +128,12 @@ impl WardenSeat {
     /// Tries to purge at a moment by one exchange, where it has not taken the block. It answers the
     /// word that it found, and the block exactly where that is the word that it expected.
     pub fn try_purge(&mut self, expected: u64, now: u64) -> (u64, Option<Block>)
-        requires free { self.old.taken ≡ false }
-        requires expected { expected ≡ expected_word self.old.tries }
+        requires free { self.old.known.taken ≡ false }
+        requires expected { expected ≡ expected_word self.old.known.tries }
         requires moment { IsMoment now }
-        ensures made { WardenMakes (kinds.Tries now) self.old self.new }
-        ensures told { AfterTry now self.old result.0 result.1 self.new }
+        ensures made { WardenMakes (kinds.Tries now) self.old.known self.new.known }
+        ensures told { AfterTry now self.old.known result.0 result.1 self.new.known }
+        ensures table { self.new.table ≡ self.old.table }
     {
         steps::try_purge::<Brand>(&self.table.shared, &mut self.seat, expected, now)
     }
