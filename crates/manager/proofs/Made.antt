@@ -11,7 +11,7 @@ use Rattle.lru_reduce.specs.Wards.{candidates_of}
 use Rattle.lru_reduce.specs.Reducing.{after_puts}
 use Rattle.lru_reduce.specs.declared.reduction.Reduced.{Reduced}
 use Rattle.manager_state.specs.Managed.{Managed}
-use Rattle.manager_state.specs.Calls.{Reduces, MakesRoom, RunsShort, Grants, GrantsWith, RunsOut, RunsOutWith}
+use Rattle.manager_state.specs.Calls.{Reduces, MakesRoom, Grants, GrantsWith, RunsOut, RunsOutWith}
 
 -- a pool made no block more, and keeps one of these pages where it did
 record Stays (pages : ℕ) (old new : Stock) : Type 0 where
@@ -61,16 +61,8 @@ grants_made client pages now side old new kept g =
 pub grants_with_made : (client : ℕ) (block : List ℕ) (now : ℕ) (side : Owned) (old new : Managed) → GrantsWith client block now side old new → new.stock.made ≡ old.stock.made
 grants_with_made client block now side old new g = ap (λ (s : Stock). s.made) g.enters.stock ∙ (room_stays 0 (page_count block) now old g.between g.room).made
 
-short_made : (pages : ℕ) (old new : Managed) → is_kept pages old.stock.kept ≡ true → RunsShort pages old new → new.stock.made ≡ old.stock.made
-short_made pages old new kept h = ⊎_elim
-    (λ (e : new ≡ old). ap (λ (m : Managed). m.stock.made) e)
-    (λ e. ap (λ (m : Managed). m.stock.made) e ∙ (put_stays pages pages (after_take pages old.stock)).made ∙ take_made pages old.stock kept)
-    h
-
-pub runs_out_made : (pages now : ℕ) (old new : Managed) → is_kept pages old.stock.kept ≡ true → RunsOut pages now old new → new.stock.made ≡ old.stock.made
-runs_out_made pages now old new kept r =
-    let stays : Stays pages old.stock r.between.stock = ⊎_elim (λ (e : r.between ≡ old). same_stays pages old r.between e) (λ h. room_stays pages pages now old r.between h) r.room in
-    short_made pages r.between new (stays.kept kept) r.short ∙ stays.made
+pub runs_out_made : (pages now : ℕ) (old new : Managed) → RunsOut pages now old new → new.stock.made ≡ old.stock.made
+runs_out_made pages now old new r = ⊎_elim (λ (e : new ≡ old). ap (λ (m : Managed). m.stock.made) e) (λ h. (room_stays 0 pages now old new h).made) r
 
 pub runs_out_with_made : (block : List ℕ) (now : ℕ) (old new : Managed) → RunsOutWith block now old new → new.stock.made ≡ old.stock.made
-runs_out_with_made block now old new r = ⊎_elim (λ (e : new ≡ old). ap (λ (m : Managed). m.stock.made) e) (λ h. (room_stays 0 (page_count block) now old new h).made) r
+runs_out_with_made block now old new r = runs_out_made (page_count block) now old new r

@@ -12,7 +12,7 @@ use Rattle.discard_book.specs.Live.{live, has_number, grants}
 use Rattle.discard_book.specs.Legal.{room}
 use Rattle.manager_state.specs.Managed.{Managed}
 use Rattle.manager_state.specs.Clients.{is_with}
-use Rattle.manager_state.specs.Calls.{Reduces, MakesRoom, Grants, GrantsWith, RunsOut, RunsOutWith, RunsShort}
+use Rattle.manager_state.specs.Calls.{Reduces, MakesRoom, Grants, GrantsWith, RunsOut, RunsOutWith}
 use Rattle.manager.specs.Counted.{count_one, counted}
 use Rattle.manager.specs.Grows.{Grows, GrantsNone, GrantsOne}
 use Rattle.manager.specs.Brought.{IsFresh}
@@ -68,26 +68,15 @@ granted_with client pages block now side old new fresh g =
       zero_bytes = subst (λ (b : List ℕ). IsZero pages b) (sym (ap (λ (o : Owned). o.bytes) is)) fresh.0;
     }
 
-runs_short : (pages : ℕ) (old new : Managed) → RunsShort pages old new → GrantsNone old new
-runs_short pages old new h = ⊎_elim
-    (λ (e : new ≡ old). same_kept old new (ap (λ (m : Managed). m.entries) e) (ap (λ (m : Managed). m.limit) e))
-    (λ e. same_kept old new (ap (λ (m : Managed). m.entries) e) (ap (λ (m : Managed). m.limit) e))
-    h
-
 pub runs_out_kept : (pages now : ℕ) (old new : Managed) → RunsOut pages now old new → GrantsNone old new
-runs_out_kept pages now old new r = then_kept old r.between new
-    (⊎_elim
-    (λ (e : r.between ≡ old). same_kept old r.between (ap (λ (m : Managed). m.entries) e) (ap (λ (m : Managed). m.limit) e))
-    (λ h. room_kept pages now old r.between h)
-    r.room)
-    (runs_short pages r.between new r.short)
+runs_out_kept pages now old new r = ⊎_elim
+    (λ (e : new ≡ old). same_kept old new (ap (λ (m : Managed). m.entries) e) (ap (λ (m : Managed). m.limit) e))
+    (λ h. room_kept pages now old new h)
+    r
 
 -- a grant with a block that was brought, out of memory
 pub runs_out_with_kept : (block : List ℕ) (now : ℕ) (old new : Managed) → RunsOutWith block now old new → GrantsNone old new
-runs_out_with_kept block now old new r = ⊎_elim
-    (λ (e : new ≡ old). same_kept old new (ap (λ (m : Managed). m.entries) e) (ap (λ (m : Managed). m.limit) e))
-    (λ h. room_kept (page_count block) now old new h)
-    r
+runs_out_with_kept block now old new r = runs_out_kept (page_count block) now old new r
 
 one_counted : (limit : ℕ) (b : Bool) (id : ℕ) (book : List Entry) → Grows limit 0 0 book (if b then book ++ entry.Back id ∷ [] else book)
 one_counted limit true id book = grows_back limit id book

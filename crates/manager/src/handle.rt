@@ -223,6 +223,10 @@ impl<'m, R: Returns, F: Fixed, G: Ledger, E: Ledger> Granter for Handle<'m, R, F
 
     ghost greatest = { λ h. h.greatest };
 
+    ghost granted_to = { λ _ _ _ _. Unit {0} };
+
+    ghost took_back = { λ _ _ _ _ _. Unit {0} };
+
     ghost Standing = { Option Tokens };
 
     ghost standing = { λ h. standing_of h.base h.shares };

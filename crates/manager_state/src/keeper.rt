@@ -9,7 +9,7 @@ ghost use Rattle.discard_book.specs.declared.entry.Entry.TheVariants as entry;
 ghost use Rattle.lru_reduce.specs.Wards.{IsNew, without_ward};
 ghost use Rattle.manager_state.specs.Managed.{managed};
 ghost use Rattle.manager_state.specs.Clients.{is_with};
-ghost use Rattle.manager_state.specs.Calls.{Reduces, MakesRoom, Enters, EntersWith, RunsShort, GivesBack, TriesOne, Removes};
+ghost use Rattle.manager_state.specs.Calls.{Reduces, MakesRoom, Enters, EntersWith, GivesBack, TriesOne, Removes};
 ghost use Rattle.manager_state.specs.Keeping.{client_at, Agrees, has_pair, KeepsLive, KeepsComing, LetsGo};
 
 use crate::answers::{Back, Tried};
@@ -17,7 +17,7 @@ use crate::numbers::Numbers;
 use block_pool::{Block, Pool};
 use discard_book::{Book, Entry};
 use lru_reduce::{Order, Reduced};
-use segment::{OwnerSide, Purge, Unmade, make};
+use segment::{OwnerSide, Prepared, Purge};
 use std::alloc::Global;
 use units::NoMemory;
 
@@ -148,32 +148,39 @@ impl Keeper {
         self.book.grants() + 1
     }
 
-    /// Gives a client a new segment with this block, where there is room for it. The block comes back where the segment
-    /// cannot be made.
+    /// Takes the memory of the next segment, of so many pages.
+    pub(crate) fn prepare(&self, alloc: Global, pages: u32) -> Result<Prepared, NoMemory>
+        ensures next { IfOk result (λ prepared.
+            prepared.id ≡ grants self.now.book.entries + 1) }
+        ensures pages { IfOk result (λ prepared. prepared.pages ≡ pages) }
+    {
+        Prepared::new(alloc, self.book.grants() + 1, pages)
+    }
+
+    /// Gives a client the next segment, which was prepared, with this block, where there is room for it.
     pub(crate) fn enter(
         &mut self,
-        alloc: Global,
         client: u32,
+        prepared: Prepared,
         block: Block,
         limit: u64,
-    ) -> Result<OwnerSide, Unmade>
+    ) -> OwnerSide
         requires client { 1 ≤ client }
+        requires next { prepared.id ≡ grants self.old.book.entries + 1 }
+        requires pages { prepared.pages ≡ page_count block }
         requires room { has_room self.old.book.entries (room limit (page_count block)) ≡ true }
         requires book { self.old.promised + 2 ≤ self.old.book.spare }
         requires order { 1 ≤ self.old.order.spare }
         requires clients { vec_len self.old.clients < vec_capacity self.old.clients }
         requires number { has_pair self.old.numbers client (length self.old.clients.items + 1)
             ≡ true }
-        ensures ok { IfOk result (λ side. EntersWith client block side
+        ensures { EntersWith client block result
             (managed limit self.old.book self.old.order self.old.pool)
-            (managed limit self.new.book self.new.order self.new.pool)) }
-        ensures back { IfErr result (λ unmade. unmade.block ≡ block) }
-        ensures err { OnErr result (managed limit self.new.book self.new.order self.new.pool
-            ≡ managed limit self.old.book self.old.order self.old.pool) }
+            (managed limit self.new.book self.new.order self.new.pool) }
     {
         let id = self.next_number();
         let pages = block.pages();
-        let (owner, warden) = make(alloc, id, block)?;
+        let (owner, warden) = prepared.fill(block);
         self.book.add(Entry::Grant {
             id,
             client,
@@ -183,10 +190,11 @@ impl Keeper {
         self.order.add(warden);
         self.clients.push_reserved(client);
         self.promised += 1;
-        Ok(owner)
+        owner
     }
 
-    /// The same with a block of the pool, which goes back to it where the segment cannot be made.
+    /// The same with a block of the pool, which is taken once all other memory is there. After `NoMemory` all is as
+    /// before.
     pub(crate) fn enter_from_pool(
         &mut self,
         alloc: Global,
@@ -205,18 +213,12 @@ impl Keeper {
         ensures ok { IfOk result (λ side. Enters client pages side
             (managed limit self.old.book self.old.order self.old.pool)
             (managed limit self.new.book self.new.order self.new.pool)) }
-        ensures err { OnErr result (RunsShort pages
-            (managed limit self.old.book self.old.order self.old.pool)
-            (managed limit self.new.book self.new.order self.new.pool)) }
+        ensures err { OnErr result (managed limit self.new.book self.new.order self.new.pool
+            ≡ managed limit self.old.book self.old.order self.old.pool) }
     {
+        let prepared = self.prepare(alloc, pages)?;
         let block = self.pool.take(alloc, pages)?;
-        match self.enter(alloc, client, block, limit) {
-            Ok(owner) => Ok(owner),
-            Err(unmade) => {
-                self.pool.put(unmade.block);
-                Err(NoMemory)
-            }
-        }
+        Ok(self.enter(client, prepared, block, limit))
     }
 
     /// The client that has a number, or 0 where none has it.

@@ -52,8 +52,7 @@ impl State {
 
     /// Grants a client a segment of 1 to 65,536 pages, held and all zero. Where granted pages exceed the room that the
     /// limit leaves for it, they are reduced to that room first. It grants in any case, so granted pages may stand
-    /// above the limit. `NoMemory` leaves all as before, or after the reduction where one was made; a block that was
-    /// taken is put back.
+    /// above the limit. `NoMemory` leaves all as before, or after the reduction where one was made.
     pub fn grant(
         &mut self,
         alloc: Global,
@@ -97,10 +96,8 @@ impl State {
     {
         self.keeper.grow(alloc, client)?;
         self.keeper.fit(self.limit, block.pages(), now);
-        match self.keeper.enter(alloc, client, block, self.limit) {
-            Ok(owner) => Ok(owner),
-            Err(_) => Err(NoMemory),
-        }
+        let prepared = self.keeper.prepare(alloc, block.pages())?;
+        Ok(self.keeper.enter(client, prepared, block, self.limit))
     }
 
     /// Takes the segment of a number back from a client, with its block where the client has it; the block goes to

@@ -38,6 +38,10 @@ enum Call {
     Remove(u32, u64),
     Granted(u128),
     Entries(usize),
+    /// So many grants of one page, all of which stay.
+    Fill(u32),
+    /// So many grants of one page, each given back before the next.
+    Turns(u32),
 }
 
 /// A call at a moment.
@@ -69,7 +73,33 @@ fn answers(state: &mut State, alloc: Global, now: u64, call: Call) -> Result<boo
         Call::Remove(client, count) => state.remove_client(client) == count,
         Call::Granted(pages) => state.granted() == pages,
         Call::Entries(count) => state.book().entries().len() == count,
+        Call::Fill(count) => fills(state, alloc, count, now)?,
+        Call::Turns(count) => turns(state, alloc, count, now)?,
     })
+}
+
+/// Whether each of so many grants of one page has the next number.
+fn fills(state: &mut State, alloc: Global, count: u32, now: u64) -> Result<bool, Fail>
+    requires { IsMoment now }
+{
+    let mut right = true;
+    for _ in 0..count {
+        let id = state.grant(alloc, 1, 1, now)?.id();
+        right &= id == state.book().grants();
+    }
+    Ok(right)
+}
+
+/// Whether each of so many grants of one page is counted off at its return.
+fn turns(state: &mut State, alloc: Global, count: u32, now: u64) -> Result<bool, Fail>
+    requires { IsMoment now }
+{
+    let mut right = true;
+    for _ in 0..count {
+        let id = state.grant(alloc, 1, 1, now)?.id();
+        right &= state.back(1, id, None) == Back::Counted;
+    }
+    Ok(right)
 }
 
 /// Grants a segment, and leaves it where the stamp is a moment.
@@ -171,6 +201,30 @@ const REMOVES_EACH: [At; 10] = [
     At(1, Call::Granted(0)),
 ];
 
+/// The greatest client and the longest segment, 5,001 live segments, and a book of 70,000 entries.
+const AT_SIZE: [At; 7] = [
+    At(1, Call::Leave(u32::MAX, MOST_PAGES, 1)),
+    At(1, Call::Granted(65_536)),
+    At(2, Call::Remove(u32::MAX, 1)),
+    At(3, Call::Fill(5_001)),
+    At(3, Call::Granted(5_001)),
+    At(4, Call::Turns(32_499)),
+    At(4, Call::Entries(70_001)),
+];
+
+/// A pool of 300 blocks keeps them, and lets the next one go.
+fn keeps_many(alloc: Global) -> Result<bool, Fail> {
+    let mut pool = Pool::new(alloc, 300)?;
+    let mut blocks = Vec::new(alloc);
+    for _ in 0..301 {
+        blocks.push(pool.take(alloc, 1)?)?;
+    }
+    while let Some(block) = blocks.pop() {
+        pool.put(block);
+    }
+    Ok(pool.kept() == 300 && pool.made() == 301 && pool.pages_put() == 301)
+}
+
 /// A grant makes room by the segment that was left, and stands above the limit where that is not
 /// enough.
 fn makes_room(alloc: Global) -> Result<bool, Fail> {
@@ -215,5 +269,11 @@ fn reductions(rt: HostRuntime) -> Result<(), Fail> {
 fn segments_come_back(rt: HostRuntime) -> Result<(), Fail> {
     assert!(rt; runs(rt.alloc(), 16384, &GIVES_BACK)? && runs(rt.alloc(), 16384, &REMOVES)?);
     assert!(rt; runs(rt.alloc(), 16384, &REMOVES_EACH)?);
+    Ok(())
+}
+
+#[test]
+fn ends_of_size(rt: HostRuntime) -> Result<(), Fail> {
+    assert!(rt; runs(rt.alloc(), 1 << 20, &AT_SIZE)? && keeps_many(rt.alloc())?);
     Ok(())
 }

@@ -43,9 +43,7 @@ grows_grants client pages now side old new w =
 
 pub grows_runs_out : (pages now : ℕ) (old new : Managed) → RunsOut pages now old new → Grows old.entries new.entries
 grows_runs_out pages now old new w =
-    grows_on old.entries w.between.entries new.entries
-    (⊎_elim (λ same. grows_same old.entries w.between.entries (ap (λ (m : Managed). m.entries) same)) (λ made. grows_room pages now old w.between made) w.room)
-    (grows_same w.between.entries new.entries (⊎_elim (λ same. ap (λ (m : Managed). m.entries) same) (λ same. ap (λ (m : Managed). m.entries) same) w.short))
+    ⊎_elim (λ (same : new ≡ old). grows_same old.entries new.entries (ap (λ (m : Managed). m.entries) same)) (λ made. grows_room pages now old new made) w
 
 pub grows_tries : (id now : ℕ) (told : Tried) (old new : Managed) → TriesOne id now told old new → Grows old.entries new.entries
 grows_tries id now NotLive old new w = grows_same old.entries new.entries (ap (λ (m : Managed). m.entries) w.1)

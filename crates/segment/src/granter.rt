@@ -1,7 +1,7 @@
-ghost use Rattle.std.specs.Prelude.{◌≡◌, ◌<◌, ◌≤◌, ℕ, IfOk, OnOk, OnErr};
+ghost use Rattle.std.specs.Prelude.{◌≡◌, ◌<◌, ◌≤◌, ℕ, List, Option, IfOk, OnOk, OnErr};
 ghost use Rattle.units.specs.Count.{next_count};
 ghost use Rattle.units.specs.declared.TheConstants.{MOST_PAGES};
-ghost use Rattle.segment.specs.Owned.{IsGranted};
+ghost use Rattle.segment.specs.Owned.{Owned, IsGranted};
 ghost use Rattle.units.specs.Moment.{IsMoment};
 
 use crate::owner::OwnerSide;
@@ -22,6 +22,12 @@ pub trait Granter {
     /// The greatest number that it granted, or 0.
     ghost greatest: { Self → ℕ };
 
+    /// It granted this client this segment. Only `grant` tells so, whatever an implementation means by it.
+    ghost granted_to: { ℕ → Owned → Self → Self → Type 0 };
+
+    /// It took this number back from this client, with the block where one came. Only `give_back` tells so.
+    ghost took_back: { ℕ → ℕ → Option (List ℕ) → Self → Self → Type 0 };
+
     /// Plain data of the implementation's own choice, which no call changes.
     ghost Standing: { Type 0 };
 
@@ -41,6 +47,7 @@ pub trait Granter {
         requires pages { (1 ≤ pages) × (pages ≤ MOST_PAGES) }
         requires moment { IsMoment now }
         ensures side { IfOk result (λ side. IsGranted pages side) }
+        ensures granted_to { IfOk result (λ side. granted_to client side self.old self.new) }
         ensures rises { IfOk result (λ side. greatest self.old < side.id) }
         ensures greatest { IfOk result (λ side. greatest self.new ≡ side.id) }
         ensures counted { OnOk result (grants self.new ≡ next_count (grants self.old)) }
@@ -57,6 +64,7 @@ pub trait Granter {
         id: u64,
         block: Option<Block>,
     )
+        ensures took_back { took_back client id block self.old self.new }
         ensures grants { grants self.new ≡ grants self.old }
         ensures greatest { greatest self.new ≡ greatest self.old }
         ensures counted { returns self.new ≡ next_count (returns self.old) }

@@ -21,6 +21,6 @@ mod warden;
 
 pub use giving::GiveUp;
 pub use granter::Granter;
-pub use making::{Unmade, make};
+pub use making::{Prepared, Unmade, make};
 pub use owner::{Lock, OwnerSide, Phase};
 pub use warden::{Purge, WardenSide};

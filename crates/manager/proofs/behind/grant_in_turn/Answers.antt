@@ -26,7 +26,7 @@ pub returns-in-Some-clause-made : goal.returns-in-Some-clause-made
 returns-in-Some-clause-made c = grants_with_made _ _ _ _ _ _ c.in_ok-grant_with.ensures.ok
 
 pub returns-in_err-grant-clause-made : goal.returns-in_err-grant-clause-made
-returns-in_err-grant-clause-made c = runs_out_made _ _ _ _ (sym c.keeps_block.ensures ∙ c.if-keeps_block.true) c.in_err-grant.ensures.err
+returns-in_err-grant-clause-made c = runs_out_made _ _ _ _ c.in_err-grant.ensures.err
 
 pub returns-then-keeps_block-clause-made : goal.returns-then-keeps_block-clause-made
 returns-then-keeps_block-clause-made c = grants_made _ _ _ _ _ _ (sym c.keeps_block.ensures ∙ c.if-keeps_block.true) c.in_ok-grant.ensures.ok

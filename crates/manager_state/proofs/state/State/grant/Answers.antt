@@ -1,4 +1,4 @@
-use Rattle.std.proofs.Common.{◌∙◌, refl, inl, inr, subst}
+use Rattle.std.proofs.Common.{◌∙◌, sym, inl, inr, subst}
 use Rattle.std.proofs.lemmas.Result.{IfOk-weaker, on_err_weaker}
 use Rattle.manager_state.specs.Managed.{Managed, managed}
 use Rattle.manager_state.specs.Calls.{MakesRoom}
@@ -7,11 +7,7 @@ use Rattle.manager_state.proofs.state.State.grant.Goals as goal
 
 pub returns-in_err-grow-clause-err : goal.returns-in_err-grow-clause-err
 returns-in_err-grow-clause-err c =
-    on_err c.from_residual.result record {
-      between = c.args.self.now;
-      room = inl refl;
-      short = inl (c.in_err-grow.ensures.same c.self.inside.limit ∙ c.self.view_is);
-    }
+    on_err c.from_residual.result (inl (c.in_err-grow.ensures.same c.self.inside.limit ∙ c.self.view_is))
 
 pub returns-clause-ok : goal.returns-clause-ok
 returns-clause-ok c =
@@ -25,4 +21,4 @@ returns-clause-err c =
     let between : Managed = managed c.self.inside.limit c.fit.new.self.book c.fit.new.self.order c.fit.new.self.pool in
     let start = c.in_ok-grow.ensures.same c.self.inside.limit ∙ c.self.view_is in
     let room = subst (λ (m : Managed). MakesRoom c.args.pages c.args.now m between) start c.fit.ensures.makes in
-    on_err_weaker c.enter_from_pool.result (λ short. record { between = between; room = inr room; short = short }) c.enter_from_pool.ensures.err
+    on_err_weaker c.enter_from_pool.result (λ same. inr (subst (λ (m : Managed). MakesRoom c.args.pages c.args.now c.args.self.now m) (sym same) room)) c.enter_from_pool.ensures.err
