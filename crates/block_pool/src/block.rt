@@ -1,6 +1,7 @@
-ghost use Rattle.std.specs.Prelude.{◌≡◌, ◌≤◌, ◌+◌, IfOk, take, drop, length};
+ghost use Rattle.std.specs.Prelude.{◌≡◌, ◌≤◌, ◌+◌, IfOk, OnOk, OnErr, take, drop, length};
 ghost use Rattle.std.specs.Borrow.{sem};
 ghost use Rattle.block_pool.specs.Block.{page_count, IsBlock, IsZero};
+ghost use Rattle.units.specs.Count.{next_count};
 ghost use Rattle.units.specs.declared.TheConstants.{MOST_PAGES};
 
 use std::alloc::Global;
@@ -39,18 +40,6 @@ impl fmt::Debug for Block {
 
 impl Block {
     ghost use Rattle.block_pool.specs.Lending.{LendsBytes, LendsPart};
-
-    /// A new block of `pages` pages, all bytes zero.
-    pub(crate) fn new(alloc: Global, pages: u32) -> Result<Block, NoMemory>
-        requires least { 1 ≤ pages }
-        requires most { pages ≤ MOST_PAGES }
-        ensures { IfOk result (IsZero pages) }
-    {
-        Ok(Block {
-            bytes: vec![in alloc; 0; PAGE as usize * pages as usize]?,
-            pages,
-        })
-    }
 
     /// How many pages it has.
     pub fn pages(&self) -> u32
@@ -92,5 +81,51 @@ impl Block {
         ensures { IsZero (page_count self.old) self.new }
     {
         self.bytes.fill(0);
+    }
+}
+
+/// Makes blocks and counts them. A pool has one for its life, and nothing else makes a block.
+#[derive(Debug, Drop)]
+pub(crate) struct Maker {
+    made: u64,
+}
+
+impl Model for Maker {
+    ghost use Rattle.std.specs.Prelude.{ℕ};
+
+    ghost Value = { ℕ };
+
+    ghost view = { λ m. m.made };
+}
+
+impl Maker {
+    /// One that has made no block.
+    pub(crate) fn new() -> Maker
+        ensures { result ≡ 0 }
+    {
+        Maker { made: 0 }
+    }
+
+    /// How many blocks it made, or the last value of u64 once it made more.
+    pub(crate) fn made(&self) -> u64
+        ensures { result ≡ self.now }
+    {
+        self.made
+    }
+
+    /// A new block of `pages` pages, all bytes zero, counted.
+    pub(crate) fn make(&mut self, alloc: Global, pages: u32) -> Result<Block, NoMemory>
+        requires least { 1 ≤ pages }
+        requires most { pages ≤ MOST_PAGES }
+        ensures bytes { IfOk result (IsZero pages) }
+        ensures counted { OnOk result (self.new ≡ next_count self.old) }
+        ensures same { OnErr result (self.new ≡ self.old) }
+    {
+        let block = Block {
+            bytes: vec![in alloc; 0; PAGE as usize * pages as usize]?,
+            pages,
+        };
+        self.made = self.made.saturating_add(1);
+        Ok(block)
     }
 }

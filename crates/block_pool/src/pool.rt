@@ -1,9 +1,9 @@
 ghost use Rattle.std.specs.Prelude.{◌≡◌, ◌≤◌, ◌==◌, false, [], length, position, is_some, IsOk, IfOk, IfSome, IfNone, OnOk, OnErr, OnSome};
 ghost use Rattle.units.specs.declared.TheConstants.{MOST_PAGES};
 ghost use Rattle.block_pool.specs.Block.{page_count, IsZero};
-ghost use Rattle.block_pool.specs.Stock.{is_kept, no_blocks, without_block, with_one_made, after_take, after_put};
+ghost use Rattle.block_pool.specs.Stock.{is_kept, no_blocks, without_block, after_take, after_put};
 
-use crate::block::Block;
+use crate::block::{Block, Maker};
 use std::alloc::Global;
 use std::collections::VecDeque;
 use std::marker::Model;
@@ -16,7 +16,7 @@ pub struct Pool {
     /// The oldest first.
     kept: VecDeque<Block>,
     keep: u32,
-    made: u64,
+    maker: Maker,
     pages_put: u64,
 }
 
@@ -31,7 +31,7 @@ impl Model for Pool {
     ghost view = { λ p. record {
       kept = map page_count p.kept.items;
       keep = p.keep;
-      made = p.made;
+      made = p.maker;
       pages_put = p.pages_put;
     } };
 
@@ -56,7 +56,7 @@ impl Pool {
         Ok(Pool {
             kept: VecDeque::with_capacity(alloc, keep as usize)?,
             keep,
-            made: 0,
+            maker: Maker::new(),
             pages_put: 0,
         })
     }
@@ -73,7 +73,7 @@ impl Pool {
     pub fn made(&self) -> u64
         ensures { result ≡ self.now.made }
     {
-        self.made
+        self.maker.made()
     }
 
     /// How many pages the blocks had that were put, kept or not, or the last value of u64 once they had
@@ -104,7 +104,7 @@ impl Pool {
     {
         match self.take_oldest(pages) {
             Some(block) => Ok(block),
-            None => self.make(alloc, pages),
+            None => self.maker.make(alloc, pages),
         }
     }
 
@@ -117,19 +117,6 @@ impl Pool {
     {
         let place = oldest(&self.kept, pages)?;
         self.kept.remove(place)
-    }
-
-    /// A new block, counted.
-    fn make(&mut self, alloc: Global, pages: u32) -> Result<Block, NoMemory>
-        requires least { 1 ≤ pages }
-        requires most { pages ≤ MOST_PAGES }
-        ensures bytes { IfOk result (IsZero pages) }
-        ensures after { OnOk result (self.new ≡ with_one_made self.old) }
-        ensures same { OnErr result (self.new ≡ self.old) }
-    {
-        let block = Block::new(alloc, pages)?;
-        self.made = self.made.saturating_add(1);
-        Ok(block)
     }
 
     /// Counts a block's pages, wipes it and keeps it last, where fewer than `keep` are kept. Else it drops

@@ -24,5 +24,5 @@ returns-clause-after c =
     let oldest = IsOldest-position c.args.pages c.self.inside.kept.items c.in_ok-place.place (sym c.in_ok-place.ensures) in
     let is_some = c.remove.ensures.succeeds [] (omega (arith, oldest.inside)) in
     let gone = rw is_some at c.remove.ensures.items in
-    let with_kept : List ℕ → Stock = λ kept. record { kept = kept; keep = c.self.inside.keep; made = c.self.inside.made; pages_put = c.self.inside.pages_put } in
+    let with_kept : List ℕ → Stock = λ kept. record { kept = kept; keep = c.self.inside.keep; made = c.self.inside.maker; pages_put = c.self.inside.pages_put } in
     rw (is_some, ← c.self.view_is) (ap with_kept (ap (map page_count) gone ∙ oldest.others))
