@@ -219,7 +219,7 @@ fn keeps_many(alloc: Global) -> Result<bool, Fail> {
     for _ in 0..301 {
         blocks.push(pool.take(alloc, 1)?)?;
     }
-    while let Some(block) = blocks.pop() {
+    for block in blocks {
         pool.put(block);
     }
     Ok(pool.kept() == 300 && pool.made() == 301 && pool.pages_put() == 301)
