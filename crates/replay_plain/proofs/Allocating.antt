@@ -88,7 +88,7 @@ comes_to client n first run found is stands =
     record { is = ap (λ (f : Found). f.run) is; stands = subst (λ (f : Found). RunStandsFor run (with_found f.run f.state client)) is stands }
 
 -- one turn, by what is picked
-abbrev turn : ℕ → ReplayState → ℕ → ℕ → Option Run → Found
+abbrev pub turn : ℕ → ReplayState → ℕ → ℕ → Option Run → Found
 turn left state client n o =
     unwrap_or (option_map (λ run. cond (is_lost state run n) (found_within left (after_loss state client run n) client n) (found_run state client run n)) o) (found_none state)
 
@@ -114,7 +114,7 @@ some_same : (x y : Run) → ◌≡◌ {A = Option Run} (Some x) (Some y) → x �
 some_same x y e = cc
 
 -- what a turn finds where the lock of what it picked is answered so
-turned : (left client n : ℕ) (state : ReplayState) (r : Run) (b : Bool) → picked state client n ≡ Some r → is_lost state r n ≡ b
+pub turned : (left client n : ℕ) (state : ReplayState) (r : Run) (b : Bool) → picked state client n ≡ Some r → is_lost state r n ≡ b
     → turn left state client n (picked state client n) ≡ cond b (found_within left (after_loss state client r n) client n) (found_run state client r n)
 turned left client n state r b is lost =
     ap (turn left state client n) is ∙ ap (λ t. cond t (found_within left (after_loss state client r n) client n) (found_run state client r n)) lost
@@ -255,7 +255,7 @@ standard_before state client m at =
     ∙ standard_stays (map (λ (id : ℕ). event.Back id) (holding_of (after_sweep state client) client).untold) (after_sweep state client)
 
 -- room for a grant changes no heap
-room_heaps : (state : ReplayState) (pages now : ℕ) → (with_room state pages now).heaps ≡ state.heaps
+pub room_heaps : (state : ReplayState) (pages now : ℕ) → (with_room state pages now).heaps ≡ state.heaps
 room_heaps state pages now = by_test (nat_lt (room state.limit pages) (granted state.events))
   where
     by_test : (b : Bool) → (cond b (after_reduction state (room state.limit pages) now) state).heaps ≡ state.heaps

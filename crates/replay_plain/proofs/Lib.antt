@@ -8,3 +8,5 @@ pub mod Tries
 pub mod Returns
 pub mod Chances
 pub mod Allocating
+pub mod RunsLieInSegments
+pub mod SearchesEnd

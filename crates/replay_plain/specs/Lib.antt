@@ -4,6 +4,7 @@ pub mod Reductions
 pub mod Rows
 pub mod Known
 pub mod Pieces
+pub mod SearchEnds
 pub mod Run
 pub mod Searching
 pub mod Commands

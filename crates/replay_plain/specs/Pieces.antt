@@ -101,7 +101,8 @@ found_within (suc most) state client n =
     else found_run state client run n)
     (picked state client n)) (found_none state)
 
--- a search for n pages: each time that it goes on, there are fewer free pages
+-- A search for n pages of a client's heap. The bound never ends it, since each turn that goes on drops a run with
+-- pages: it finds none only where no free run serves (`law_searches_end`).
 abbrev pub find : ReplayState → ℕ → ℕ → Found
 find state client n = found_within (pages_of (holding_of state client).runs) state client n
 

@@ -21,7 +21,7 @@ mod segment;
 mod steps;
 
 pub use config::ReplayCfg;
-pub use laws::law_reductions_end;
+pub use laws::{law_reductions_end, law_searches_end};
 pub use pieces::pages_for;
 pub use reply::{
     push_answer, push_back_answer, push_freed, push_granted, push_hex, push_piece, push_reduced,
