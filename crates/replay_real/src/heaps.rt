@@ -116,7 +116,6 @@ impl Heaps {
         requires client { IsClient client }
         requires held { side.phase ≡ phase.Held }
         requires pages { (1 ≤ pages) × (pages ≤ side.pages) }
-        requires most { side.pages ≤ MOST_PAGES }
         requires moment { IsMoment now }
         ensures { IfOk result (λ run. run ≡ front_of (whole_of side.id side.pages) pages) }
     {
@@ -138,7 +137,6 @@ impl Heaps {
         requires client { IsClient client }
         requires held { side.phase ≡ phase.Held }
         requires pages { (1 ≤ pages) × (pages ≤ side.pages) }
-        requires most { side.pages ≤ MOST_PAGES }
         requires moment { IsMoment now }
         ensures { IfOk result (λ told. told.1 ≡ front_of (whole_of side.id side.pages) pages) }
     {

@@ -102,7 +102,6 @@ impl ScriptClient {
     ) -> Result<Run, NoMemory>
         requires held { side.phase ≡ phase.Held }
         requires pages { (1 ≤ pages) × (pages ≤ side.pages) }
-        requires most { side.pages ≤ MOST_PAGES }
         requires moment { IsMoment now }
         ensures { IfOk result (λ run. run ≡ front_of (whole_of side.id side.pages) pages) }
     {
