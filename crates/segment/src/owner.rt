@@ -1,6 +1,7 @@
 ghost use Rattle.std.specs.Prelude.{◌≡◌, ◌≢◌, ◌≤◌, ◌+◌, Some, [], length, take, drop};
 ghost use Rattle.std.specs.Borrow.{sem};
 ghost use Rattle.units.specs.Moment.{IsMoment};
+ghost use Rattle.units.specs.declared.TheConstants.{MOST_PAGES};
 ghost use Rattle.segment.specs.Found.{LockFinds, LookFinds};
 ghost use Rattle.segment.specs.Owned.{Owned, IsOwned, AfterLock, after_unlock, AfterLook, HasPages};
 ghost use Rattle.segment.specs.declared.owner.Phase.TheVariants.{Held, Idle, Gone};
@@ -99,9 +100,11 @@ impl OwnerSide {
         self.id
     }
 
-    /// How many pages the segment has.
+    /// How many pages the segment has, from 1 to 65,536.
     pub fn pages(&self) -> u32
-        ensures { result ≡ self.now.pages }
+        ensures value { result ≡ self.now.pages }
+        ensures least { 1 ≤ self.now.pages }
+        ensures most { self.now.pages ≤ MOST_PAGES }
     {
         self.pages
     }
