@@ -1,17 +1,18 @@
-ghost use Rattle.std.specs.Prelude.{◌≡◌, ◌↔◌, ◌+◌, ◌-◌, ◌*◌, ◌^◌, ◌<◌, ◌≤◌, ℕ, [], List, Some, true, false, IsTrue, IfOk, IfErr, OnOk, OnErr, length};
+ghost use Rattle.std.specs.Prelude.{◌≡◌, ◌↔◌, ◌+◌, ◌-◌, ◌*◌, ◌^◌, ◌<◌, ◌≤◌, ℕ, [], List, Some, true, false, IsTrue, IfOk, IfErr, OnOk, OnErr, filter, length};
 ghost use Rattle.units.specs.Moment.{IsMoment};
 ghost use Rattle.units.specs.declared.TheConstants.{MOST_PAGES, PAGE};
 ghost use Rattle.segment.specs.Owned.{Owned};
 ghost use Rattle.span_heap.specs.Heap.{size_of};
 ghost use Rattle.client.specs.Sizes.{wanted};
 ghost use Rattle.client.specs.Pieces.{Owns, AllStay, OthersStay, IsNew, LocksPiece, UnlocksPiece, bytes_of, part_after_lock, WritesOnly};
-ghost use Rattle.client.specs.Places.{NoneAllFree, LeavesUsed};
+ghost use Rattle.client.specs.Places.{NoneAllFree, LeavesUsed, is_all_free};
+ghost use Rattle.client.specs.GivingUp.{FindsGone, KeepsUntold};
 ghost use Rattle.std.specs.Borrow.{sem};
 ghost use Rattle.units.specs.Count.{next_count};
 ghost use Rattle.client.specs.Calls.{LocksPart, UnlocksRun, AfterFree};
 ghost use Rattle.client.specs.Gone.{AreGone, Includes};
 ghost use Rattle.client.specs.declared.granted.ClientFault.TheVariants as fault;
-ghost use Rattle.client.specs.Granting.{Allocates, granted_pages, GrowsBy, Releases, IsSettled, RoseBy, LAST_COUNT, IsTooLarge, CameWhole, IsBalanced, AllocatesCounted, IsOutOfMemory};
+ghost use Rattle.client.specs.Granting.{Allocates, granted_pages, GrowsBy, Releases, IsSettled, RoseBy, LAST_COUNT, IsTooLarge, CameWhole, IsBalanced, AllocatesCounted, IsOutOfMemory, GrantsNone, ReturnsOwed};
 
 use crate::answers::{Unadopted, Unlocked};
 use crate::client::Client;
@@ -263,6 +264,11 @@ impl<G: Granter + Drop> Granted<G> {
         ensures stay { AllStay self.old.client self.new.client }
         ensures start { self.new.start ≡ self.old.start }
         ensures grants { self.new.grants ≡ self.old.grants }
+        ensures granted { GrantsNone (G.grants self.old.granter) (G.grants self.new.granter)
+            (G.greatest self.old.granter) (G.greatest self.new.granter) }
+        ensures standing { G.standing self.new.granter ≡ G.standing self.old.granter }
+        ensures returned { ReturnsOwed (G.returns self.old.granter) (G.returns self.new.granter)
+            self.old.client self.new.client }
     {
         let lost = self.client.sweep();
         tell_all(&mut self.client, &mut self.granter, rt);
@@ -270,23 +276,36 @@ impl<G: Granter + Drop> Granted<G> {
     }
 
     /// Gives back each segment that is all free, and no other, and answers how many were whole: the
-    /// others were purged.
+    /// others were purged, and their sides are kept among the gone ones. All else stays: the other
+    /// segments, their used spans and their free runs in their order.
     pub fn release_free<H: Threads + Wait + Sync>(&mut self, rt: &H) -> u64
         ensures whole { CameWhole result self.old.client self.new.client }
         ensures left { LeavesUsed self.old.client self.new.client }
         ensures none { NoneAllFree self.new.client }
         ensures gone { Includes self.old.client.gone self.new.client.gone }
+        ensures found { FindsGone
+            (filter (is_all_free self.old.client.heap.used) self.old.client.leases)
+            self.old.client self.new.client.gone }
+        ensures told { KeepsUntold self.old.client self.new.client }
         ensures stay { AllStay self.old.client self.new.client }
         ensures start { self.new.start ≡ self.old.start }
         ensures grants { self.new.grants ≡ self.old.grants }
+        ensures granted { GrantsNone (G.grants self.old.granter) (G.grants self.new.granter)
+            (G.greatest self.old.granter) (G.greatest self.new.granter) }
+        ensures standing { G.standing self.new.granter ≡ G.standing self.old.granter }
+        ensures returned { ReturnsOwed (G.returns self.old.granter) (G.returns self.new.granter)
+            self.old.client self.new.client }
     {
         give_back_free(&mut self.client, &mut self.granter, rt)
     }
 
     /// Ends the client: every segment is given back. The end tells how many were granted, and has each side
-    /// that was found gone.
+    /// that was found gone, before or now, each once, and no other.
     pub fn close<H: Threads + Wait + Sync>(self, rt: &H) -> ClientEnd
-        ensures { result.grants ≡ self.grants }
+        ensures end { result.grants ≡ self.grants }
+        ensures gone { AreGone result.gone }
+        ensures found { FindsGone self.client.leases self.client result.gone }
+        ensures kept { Includes self.client.gone result.gone }
     {
         let (end, _granter) = self.close_with(rt);
         end
@@ -304,6 +323,7 @@ impl<G: Granter + Drop> Granted<G> {
         ensures within { result.0.grants ≤ LAST_COUNT }
         ensures standing { G.standing result.1 ≡ G.standing self.start }
         ensures gone { AreGone result.0.gone }
+        ensures found { FindsGone self.client.leases self.client result.0.gone }
         ensures kept { Includes self.client.gone result.0.gone }
     {
         let Granted {

@@ -1,6 +1,9 @@
 use Rattle.std.proofs.Common.{◌≡◌, length}
 use Rattle.client.specs.Pieces.{AllStay}
 use Rattle.client.specs.Granting.{Returns, CameWhole}
+use Rattle.std.specs.List.{filter}
+use Rattle.client.specs.Places.{is_all_free}
+use Rattle.client.proofs.GivenUp.{Giving}
 use Rattle.client.proofs.FreeOnesLeft.{Leaving}
 use Rattle.client.proofs.returning.give_back_free.Given as goal
 
@@ -10,6 +13,7 @@ invariant-loop-side g l = record {
   whole : CameWhole l.whole l.fn.client l.client;
   leaves : Leaving l.fn.client l.client;
   stay : AllStay l.fn.client l.client;
+  giving : Giving (filter (is_all_free l.fn.client.heap.used) l.fn.client.leases) l.fn.client l.client;
   grants : g.G.Granter.grants l.granter ≡ g.G.Granter.grants l.fn.granter;
   greatest : g.G.Granter.greatest l.granter ≡ g.G.Granter.greatest l.fn.granter;
   standing : g.G.Granter.standing l.granter ≡ g.G.Granter.standing l.fn.granter;

@@ -28,3 +28,8 @@ pub returns-clause-kept : goal.returns-clause-kept
 returns-clause-kept g c =
     let gone = c.into_gone.ensures.sides ∙ ap (λ (s : Seen). s.gone) c.tell_all.ensures.client in
     rw (← c.self.view_is, c.of-gone.ensures, gone) c.give_back_all.ensures.returns.gone
+
+pub returns-clause-found : goal.returns-clause-found
+returns-clause-found g c =
+    let gone = c.into_gone.ensures.sides ∙ ap (λ (s : Seen). s.gone) c.tell_all.ensures.client in
+    rw (← c.self.view_is, c.of-gone.ensures, gone) c.give_back_all.ensures.found
