@@ -1,5 +1,5 @@
 -- Segments that are all free are given back: those with a used span are left.
-use Rattle.std.proofs.Common.{◌≡◌, ℕ, zero, suc, Bool, true, false, not, List, [], ◌∷◌, Some, refl, sym, ap, subst, ◌∙◌, inl, inr}
+use Rattle.std.proofs.Common.{◌≡◌, ℕ, zero, suc, ◌<◌, Bool, true, false, not, List, [], ◌∷◌, Some, refl, sym, ap, subst, ◌∙◌, inl, inr, arith}
 use Rattle.std.specs.List.{slice_get, filter, list_any, remove, Contains}
 use Rattle.std.specs.List.Sorted.{IsPermutation}
 use Rattle.std.proofs.lemmas.Bool.{cases_Bool, ne_eqb, or_parts, eqb-true}
@@ -130,10 +130,53 @@ giving_free_on whole start now mid next place side leaving giving first out give
     let there = All-at (Contains start.leases) now.leases place out.lease giving.rest out.stood in
     giving_on whole (filter (is_all_free start.heap.used) start.leases) start now mid next place side giving out (filtered (is_all_free start.heap.used) start.leases out.lease there passes) gives
 
+-- where none is all free, each has a used span of the start
+all_used : (start now : Seen) → Leaving start now → NoneAllFree now → (p : ℕ) (lease : Lease) → slice_get now.leases p ≡ Some lease → has_used start.heap.used lease ≡ true
+all_used start now leaving none p lease at =
+    elim (cases_Bool (has_used start.heap.used lease)) [
+      | inl passed ↦ passed
+      | inr failed ↦ absurd (none p lease (slice_get_within now.leases p lease at) at (none_in now.heap.used lease.side.id
+          (sym (list_any-IsPermutation (lies_in lease.side.id) start.heap.used now.heap.used leaving.used) ∙ failed)))
+    ]
+
+-- of a list the first that passes a test, and those behind it
+filter_first : {X : Type 0} (t : X → Bool) (xs : List X) (p : ℕ) (x : X) → slice_get xs p ≡ Some x → t x ≡ true → ((q : ℕ) (y : X) → q < p → slice_get xs q ≡ Some y → t y ≡ false)
+    → filter t xs ≡ x ∷ filter t (remove xs p)
+filter_first t [] p x at passes before = absurd (none-some x at)
+filter_first t (y ∷ xs) zero x at passes before =
+    let same = same_Some y x at in
+    rw (ap t same ∙ passes) (ap (λ z. z ∷ filter t xs) same)
+filter_first t (y ∷ xs) (suc p) x at passes before =
+    rw (before 0 y (omega arith) refl) (filter_first t xs p x at passes (λ q z less here. before (suc q) z (omega (arith, less)) here))
+
+filter_none : {X : Type 0} (t : X → Bool) (xs : List X) → ((p : ℕ) (x : X) → slice_get xs p ≡ Some x → t x ≡ false) → filter t xs ≡ []
+filter_none t [] none = refl
+filter_none t (y ∷ xs) none = rw (none 0 y refl) (filter_none t xs (λ p x at. none (suc p) x at))
+
+-- the segment that is taken out is the first of those that are all free
+pub free_first : (whole : Bool) (start now mid next : Seen) (place : ℕ) (side : Owned) → Leaving start now → IsFirstFree place now → (out : TakesOut place side now mid) → GivesSide whole side mid next
+    → filter (is_all_free start.heap.used) now.leases ≡ out.lease ∷ filter (is_all_free start.heap.used) next.leases
+free_first whole start now mid next place side leaving first out gives =
+    let is_free = out_free start now mid place side leaving first out in
+    let test = is_all_free start.heap.used in
+    rw ((given_rest whole side mid next gives).leases, out.leaves.leases) (filter_first test now.leases place out.lease out.stood (ap not is_free.fails) each)
+  where
+    each : (q : ℕ) (lease : Lease) → q < place → slice_get now.leases q ≡ Some lease → is_all_free start.heap.used lease ≡ false
+    each q lease less at =
+        elim (cases_Bool (has_used start.heap.used lease)) [
+          | inl passed ↦ ap not passed
+          | inr failed ↦ absurd (first.first q lease less at (none_in now.heap.used lease.side.id
+              (sym (list_any-IsPermutation (lies_in lease.side.id) start.heap.used now.heap.used leaving.used) ∙ failed)))
+        ]
+
+-- and at the end there is none
+pub free_none : (start now : Seen) → Leaving start now → NoneAllFree now → filter (is_all_free start.heap.used) now.leases ≡ []
+free_none start now leaving none = filter_none (is_all_free start.heap.used) now.leases (λ p lease at. ap not (all_used start now leaving none p lease at))
+
 pub leaving_end : (start now : Seen) → Leaving start now → NoneAllFree now → IsSoundSeen now → LeavesUsed start now
 leaving_end start now leaving none sound =
     record {
-      leases = sym (filter_all (has_used start.heap.used) now.leases each) ∙ leaving.left;
+      leases = sym (filter_all (has_used start.heap.used) now.leases (all_used start now leaving none)) ∙ leaving.left;
       used = leaving.used;
       free = sym (filter_all (is_with_used start.heap.used) now.heap.free each_run) ∙ leaving.free;
       segments = sound.segments;
@@ -141,15 +184,7 @@ leaving_end start now leaving none sound =
       standard = leaving.standard;
     }
   where
-    each : (p : ℕ) (lease : Lease) → slice_get now.leases p ≡ Some lease → has_used start.heap.used lease ≡ true
-    each p lease at =
-        elim (cases_Bool (has_used start.heap.used lease)) [
-          | inl passed ↦ passed
-          | inr failed ↦ absurd (none p lease (slice_get_within now.leases p lease at) at (none_in now.heap.used lease.side.id
-              (sym (list_any-IsPermutation (lies_in lease.side.id) start.heap.used now.heap.used leaving.used) ∙ failed)))
-        ]
-
     each_run : (p : ℕ) (run : Run) → slice_get now.heap.free p ≡ Some run → is_with_used start.heap.used run ≡ true
     each_run p run at =
         let lies = lies_from now.heap.segments now.leases run sound.segments (All-at (LiesWithin now.heap.segments) now.heap.free p run sound.partition.free_within at) in
-        ap (λ n. list_any (lies_in n) start.heap.used) (sym lies.number) ∙ each lies.place lies.lease lies.stands
+        ap (λ n. list_any (lies_in n) start.heap.used) (sym lies.number) ∙ all_used start now leaving none lies.place lies.lease lies.stands

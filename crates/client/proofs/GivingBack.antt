@@ -34,14 +34,14 @@ pub record Telling (start now : Seen) (returns_then returns_now : ℕ) : Type 0 
 pub telling_start : (seen : Seen) (r : ℕ) → seen.told ≤ length seen.gone → Telling seen seen r r
 telling_start seen r within = record { is = refl; more = omega arith; within = within; counted = λ _. omega arith }
 
-next_some : (gone : List Owned) (told id : ℕ) → next_of gone told ≡ Some id → told < length gone
+pub next_some : (gone : List Owned) (told id : ℕ) → next_of gone told ≡ Some id → told < length gone
 next_some gone told id e =
     elim (slice_get_cases gone told).1 [
       | inl (side, within, at, is) ↦ within
       | inr (past, none) ↦ absurd (none-some id (sym (ap (option_map (λ (s : Owned). s.id)) none) ∙ e))
     ]
 
-next_none : (gone : List Owned) (told : ℕ) → next_of gone told ≡ None → length gone ≤ told
+pub next_none : (gone : List Owned) (told : ℕ) → next_of gone told ≡ None → length gone ≤ told
 next_none gone told e =
     elim (slice_get_cases gone told).1 [
       | inl (side, within, at, is) ↦ absurd (none-some side.id (sym e ∙ ap (option_map (λ (s : Owned). s.id)) at))

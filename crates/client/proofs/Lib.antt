@@ -15,5 +15,6 @@ pub mod Writing
 pub mod GivingBack
 pub mod GivenUp
 pub mod FreeOnesLeft
+pub mod TakingBack
 pub mod Allocating
 pub mod Knowing

@@ -11,4 +11,5 @@ pub mod Sound
 pub mod GivingUp
 pub mod Sizes
 pub mod Granting
+pub mod TakenBack
 pub mod GrantedLending

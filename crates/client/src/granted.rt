@@ -1,4 +1,4 @@
-ghost use Rattle.std.specs.Prelude.{◌≡◌, ◌↔◌, ◌+◌, ◌-◌, ◌*◌, ◌^◌, ◌<◌, ◌≤◌, ℕ, [], List, Some, true, false, IsTrue, IfOk, IfErr, OnOk, OnErr, filter, length};
+ghost use Rattle.std.specs.Prelude.{◌≡◌, ◌↔◌, ◌+◌, ◌-◌, ◌*◌, ◌^◌, ◌<◌, ◌≤◌, ℕ, [], List, Some, true, false, IsTrue, IfOk, IfErr, OnOk, OnErr, filter, drop, reverse, length};
 ghost use Rattle.units.specs.Moment.{IsMoment};
 ghost use Rattle.units.specs.declared.TheConstants.{MOST_PAGES, PAGE};
 ghost use Rattle.segment.specs.Owned.{Owned};
@@ -7,6 +7,7 @@ ghost use Rattle.client.specs.Sizes.{wanted};
 ghost use Rattle.client.specs.Pieces.{Owns, AllStay, OthersStay, IsNew, LocksPiece, UnlocksPiece, bytes_of, part_after_lock, WritesOnly};
 ghost use Rattle.client.specs.Places.{NoneAllFree, LeavesUsed, is_all_free};
 ghost use Rattle.client.specs.GivingUp.{FindsGone, KeepsUntold};
+ghost use Rattle.client.specs.TakenBack.{Return, TookAll, AreReturned, gone_returns, untold_returns, CameFrom, CameToNothing, AskedFor};
 ghost use Rattle.std.specs.Borrow.{sem};
 ghost use Rattle.units.specs.Count.{next_count};
 ghost use Rattle.client.specs.Calls.{LocksPart, UnlocksRun, AfterFree};
@@ -204,6 +205,8 @@ impl<G: Granter + Drop> Granted<G> {
             ≤ size_of self.old.client.heap.segments + granted_pages self.old.client pages)) }
         ensures grants { IfOk result (λ piece. (pages : ℕ) × (wanted bytes ≡ Some pages)
             × AllocatesCounted pages piece self.old self.new) }
+        ensures asked { IfOk result (λ piece. (pages : ℕ) × (wanted bytes ≡ Some pages)
+            × AskedFor G.granted_to G.took_back pages piece self.old self.new) }
         ensures out { IsOutOfMemory bytes result self.old self.new }
         ensures no_more { OnErr result (size_of self.new.client.heap.segments
             ≤ size_of self.old.client.heap.segments) }
@@ -236,6 +239,10 @@ impl<G: Granter + Drop> Granted<G> {
         requires moment { IsMoment now }
         ensures ok { IfOk result (λ piece. GrowsBy pages piece self.old.client self.new.client) }
         ensures counted { OnOk result (self.new.grants ≡ next_count self.old.grants) }
+        ensures granted { IfOk result (λ piece. CameFrom G.granted_to self.old.client.number pages
+            piece self.old.client self.new.client self.old.granter self.new.granter) }
+        ensures nothing { OnErr result (CameToNothing G.granted_to G.took_back G.grants G.returns
+            self.old.client.number self.old.granter self.new.granter) }
         ensures piece { IfOk result (λ piece. IsNew pages self.old.client self.new.client piece) }
         ensures same { OnErr result (self.new.client ≡ self.old.client) }
         ensures stay { AllStay self.old.client self.new.client }
@@ -260,6 +267,9 @@ impl<G: Granter + Drop> Granted<G> {
     pub fn release_purged<H: Threads + Wait + Sync>(&mut self, rt: &H) -> u64
         ensures releases { (lost : List Owned) × (result ≡ length lost)
             × Releases lost self.old.client self.new.client }
+        ensures took { TookAll G.took_back self.old.client.number
+            (gone_returns (drop self.old.client.told self.new.client.gone))
+            self.old.granter self.new.granter }
         ensures gone { Includes self.old.client.gone self.new.client.gone }
         ensures stay { AllStay self.old.client self.new.client }
         ensures start { self.new.start ≡ self.old.start }
@@ -280,6 +290,11 @@ impl<G: Granter + Drop> Granted<G> {
     /// segments, their used spans and their free runs in their order.
     pub fn release_free<H: Threads + Wait + Sync>(&mut self, rt: &H) -> u64
         ensures whole { CameWhole result self.old.client self.new.client }
+        ensures took { (returns : List Return)
+            × AreReturned (filter (is_all_free self.old.client.heap.used) self.old.client.leases)
+            returns
+            × TookAll G.took_back self.old.client.number returns
+            self.old.granter self.new.granter }
         ensures left { LeavesUsed self.old.client self.new.client }
         ensures none { NoneAllFree self.new.client }
         ensures gone { Includes self.old.client.gone self.new.client.gone }
@@ -317,6 +332,11 @@ impl<G: Granter + Drop> Granted<G> {
     /// Its standing is the one that it had.
     pub fn close_with<H: Threads + Wait + Sync>(self, rt: &H) -> (ClientEnd, G)
         ensures end { result.0.grants ≡ self.grants }
+        ensures took { (returns : List Return) × (between : G)
+            × AreReturned (reverse self.client.leases) returns
+            × TookAll G.took_back self.client.number returns self.granter between
+            × TookAll G.took_back self.client.number (untold_returns self.client)
+            between result.1 }
         ensures settled { IsSettled (G.grants self.start) (G.grants result.1) (G.returns self.start)
             (G.returns result.1) result.0.grants }
         ensures exact { RoseBy (G.grants self.start) (G.grants result.1) result.0.grants }

@@ -1,0 +1,107 @@
+-- Segments are given back one after the other: what the granter took of them.
+use Rattle.std.proofs.Common.{◌≡◌, ℕ, zero, suc, ◌+◌, ◌-◌, ◌<◌, ◌≤◌, nat_lt, Bool, true, false, List, [], ◌∷◌, ◌++◌, length, map, take, drop, reverse, Option, Some, None, option_map, refl, sym, ap, subst, ◌∙◌, inl, inr, arith, length-append}
+use Rattle.std.specs.List.{slice_get, remove}
+use Rattle.std.proofs.lemmas.List.{reverse-append}
+use Rattle.std.proofs.lemmas.Bool.{lt-ltb}
+use Rattle.std.proofs.lemmas.Option.{none-some, same_Some, slice_get_within, slice_get_cases}
+use Rattle.segment.specs.Owned.{Owned}
+use Rattle.client.specs.Gone.{next_of, after_next, kept_sides}
+use Rattle.client.specs.Lease.{Lease}
+use Rattle.client.specs.Seen.{Seen, next_untold}
+use Rattle.client.specs.Calls.{TakesOut, TakesLast}
+use Rattle.client.specs.Granting.{GivesSide}
+use Rattle.client.specs.TakenBack.{Return, TookAll, IsReturned, AreReturned, gone_returns, untold_returns}
+use Rattle.client.proofs.GivingBack.{next_some, next_none}
+
+-- what is still to come back makes up, with what came, all of these segments
+abbrev pub ReturnsOn : {G : Type 0} → (ℕ → ℕ → Option (List ℕ) → G → G → Type 0) → ℕ → List Lease → G → List Lease → G → Type 0
+ReturnsOn {G} took number start first rest now = (returns : List Return) (last : G) → AreReturned rest returns → TookAll took number returns now last
+    → (all : List Return) × AreReturned start all × TookAll took number all first last
+
+pub returns_first : {G : Type 0} (took : ℕ → ℕ → Option (List ℕ) → G → G → Type 0) (number : ℕ) (start : List Lease) (first : G) → ReturnsOn took number start first start first
+returns_first took number start first = λ returns last are all. (returns, are, all)
+
+pub returns_one : {G : Type 0} (took : ℕ → ℕ → Option (List ℕ) → G → G → Type 0) (number : ℕ) (start : List Lease) (first now next : G) (lease : Lease) (rest left : List Lease)
+    → ReturnsOn took number start first rest now → rest ≡ lease ∷ left → ((one : Return) × IsReturned lease.side one × took number one.0 one.1 now next) → ReturnsOn took number start first left next
+returns_one took number start first now next lease rest left on is back = λ returns last are all.
+    on (back.0 ∷ returns) last (subst (λ (ls : List Lease). AreReturned ls (back.0 ∷ returns)) (sym is) (back.1, are)) (next, back.2, all)
+
+pub returns_last : {G : Type 0} (took : ℕ → ℕ → Option (List ℕ) → G → G → Type 0) (number : ℕ) (start : List Lease) (first : G) (rest : List Lease) (now : G)
+    → ReturnsOn took number start first rest now → rest ≡ [] → (all : List Return) × AreReturned start all × TookAll took number all first now
+returns_last took number start first rest now on none = on [] now (subst (λ (ls : List Lease). AreReturned ls []) (sym none) tt) refl
+
+-- the last of a list, and those before it
+reverse_cons : {X : Type 0} (y : X) (xs : List X) → reverse (y ∷ xs) ≡ reverse xs ++ y ∷ []
+reverse_cons y xs = reverse-append (y ∷ []) xs
+
+reverse_last : {X : Type 0} (xs : List X) (p : ℕ) (x : X) → slice_get xs p ≡ Some x → length xs ≡ suc p → reverse xs ≡ x ∷ reverse (remove xs p)
+reverse_last [] p x at long = absurd (none-some x at)
+reverse_last (y ∷ []) zero x at long = ap (λ z. z ∷ []) (same_Some y x at)
+reverse_last (y ∷ z ∷ zs) zero x at long = absurd (omega (arith, long))
+reverse_last (y ∷ xs) (suc p) x at long =
+    reverse_cons y xs ∙ (ap (λ zs. zs ++ y ∷ []) (reverse_last xs p x at (omega (arith, long))) ∙ ap (λ zs. x ∷ zs) (sym (reverse_cons y (remove xs p))))
+
+-- the segment that is taken out is the last one
+pub last_first : (now mid next : Seen) (side : Owned) → (out : TakesLast side now mid) → next.leases ≡ mid.leases → reverse now.leases ≡ out.lease ∷ reverse next.leases
+last_first now mid next side out same =
+    let within = slice_get_within now.leases (length now.leases - 1) out.lease out.stood in
+    rw (same, out.leaves.leases) (reverse_last now.leases (length now.leases - 1) out.lease out.stood (omega (arith, within)))
+
+-- what is still to be told makes up, with what was told, all
+abbrev pub TellsOn : {G : Type 0} → (ℕ → ℕ → Option (List ℕ) → G → G → Type 0) → Seen → G → Seen → G → Type 0
+TellsOn {G} took start first seen now = (last : G) → TookAll took seen.number (untold_returns seen) now last → TookAll took start.number (untold_returns start) first last
+
+pub tells_first : {G : Type 0} (took : ℕ → ℕ → Option (List ℕ) → G → G → Type 0) (start : Seen) (first : G) → TellsOn took start first start first
+tells_first took start first = λ last all. all
+
+drop_at : {X : Type 0} (xs : List X) (p : ℕ) (x : X) → slice_get xs p ≡ Some x → drop p xs ≡ x ∷ drop (suc p) xs
+drop_at [] p x at = absurd (none-some x at)
+drop_at (y ∷ xs) zero x at = ap (λ z. z ∷ xs) (same_Some y x at)
+drop_at (y ∷ xs) (suc p) x at = drop_at xs p x at
+
+drop_past : {X : Type 0} (xs : List X) (p : ℕ) → length xs ≤ p → drop p xs ≡ []
+drop_past [] zero past = refl
+drop_past [] (suc p) past = refl
+drop_past (y ∷ xs) zero past = absurd (omega (arith, past))
+drop_past (y ∷ xs) (suc p) past = drop_past xs p (omega (arith, past))
+
+next_side : (gone : List Owned) (told id : ℕ) → next_of gone told ≡ Some id → (side : Owned) × (slice_get gone told ≡ Some side) × (side.id ≡ id)
+next_side gone told id e =
+    elim (slice_get_cases gone told).1 [
+      | inl (side, within, at, is) ↦ (side, at, same_Some side.id id (sym (ap (option_map (λ (s : Owned). s.id)) at) ∙ e))
+      | inr (past, none) ↦ absurd (none-some id (sym (ap (option_map (λ (s : Owned). s.id)) none) ∙ e))
+    ]
+
+-- one gone side more was told
+pub tells_one : {G : Type 0} (took : ℕ → ℕ → Option (List ℕ) → G → G → Type 0) (start : Seen) (first : G) (now next : Seen) (old new : G) (id : ℕ) → TellsOn took start first now old
+    → next_untold now ≡ Some id → next ≡ record now { told = after_next now.gone now.told } → took now.number id None old new → TellsOn took start first next new
+tells_one took start first now next old new id on some is told =
+    let found = next_side now.gone now.told id some in
+    let less = next_some now.gone now.told id some in
+    let more : after_next now.gone now.told ≡ suc now.told = rw (lt-ltb now.told (length now.gone) less) (omega arith) in
+    let same : next ≡ record now { told = suc now.told } = is ∙ ap (λ (n : ℕ). record now { told = n }) more in
+    let untold : untold_returns now ≡ (id, None) ∷ gone_returns (drop (suc now.told) now.gone) =
+        ap gone_returns (drop_at now.gone now.told found.0 found.1) ∙ ap (λ (n : ℕ). (n, None) ∷ gone_returns (drop (suc now.told) now.gone)) found.2 in
+    λ last all. on last (subst (λ returns. TookAll took now.number returns old last) (sym untold) (new, told, subst (λ (s : Seen). TookAll took s.number (untold_returns s) new last) same all))
+
+-- all were told
+pub tells_last : {G : Type 0} (took : ℕ → ℕ → Option (List ℕ) → G → G → Type 0) (start : Seen) (first : G) (now : Seen) (old : G) → TellsOn took start first now old → next_untold now ≡ None
+    → TookAll took start.number (untold_returns start) first old
+tells_last took start first now old on none =
+    let untold : untold_returns now ≡ [] = ap gone_returns (drop_past now.gone now.told (next_none now.gone now.told none)) in
+    on old (subst (λ returns. TookAll took now.number returns old old) (sym untold) refl)
+
+-- what came back of a side came back of its segment, under the client's number
+pub of_lease : {G : Type 0} (took : ℕ → ℕ → Option (List ℕ) → G → G → Type 0) (side : Owned) (lease : Lease) {number start : ℕ} {old new : G} → side ≡ lease.side → number ≡ start
+    → ((one : Return) × IsReturned side one × took number one.0 one.1 old new) → (one : Return) × IsReturned lease.side one × took start one.0 one.1 old new
+of_lease took side lease {number} {start} {old} {new} is same back =
+    (back.0, subst (λ (s : Owned). IsReturned s back.0) is back.1, subst (λ (n : ℕ). took n back.0.0 back.0.1 old new) same back.2)
+
+-- a side that is taken out leaves the client its number
+pub number_out : (now mid : Seen) (place : ℕ) (side : Owned) → TakesOut place side now mid → mid.number ≡ now.number
+number_out now mid place side out = out.leaves.name.number
+
+-- one that is given up leaves the other segments
+pub given_leases : (whole : Bool) (side : Owned) (old new : Seen) → GivesSide whole side old new → new.leases ≡ old.leases
+given_leases true side old new (gave, is) = ap (λ (s : Seen). s.leases) is
+given_leases false side old new (gone, goes, is) = ap (λ (s : Seen). s.leases) is
