@@ -341,6 +341,7 @@ impl<G: Granter + Drop> Granted<G> {
             (G.returns result.1) result.0.grants }
         ensures exact { RoseBy (G.grants self.start) (G.grants result.1) result.0.grants }
         ensures within { result.0.grants ≤ LAST_COUNT }
+        ensures greatest { G.greatest result.1 ≡ G.greatest self.granter }
         ensures standing { G.standing result.1 ≡ G.standing self.start }
         ensures gone { AreGone result.0.gone }
         ensures found { FindsGone self.client.leases self.client result.0.gone }

@@ -20,6 +20,9 @@ returns-clause-exact g c =
 pub returns-clause-within : goal.returns-clause-within
 returns-clause-within g c = c.self.invariant.0.within
 
+pub returns-clause-greatest : goal.returns-clause-greatest
+returns-clause-greatest g c = rw (← c.self.view_is) (c.tell_all.ensures.greatest ∙ c.give_back_all.ensures.greatest)
+
 pub returns-clause-standing : goal.returns-clause-standing
 returns-clause-standing g c =
     rw (← c.self.view_is) (c.tell_all.ensures.standing ∙ (c.give_back_all.ensures.standing ∙ c.self.invariant.1))
