@@ -44,7 +44,7 @@ take_front : {X : Type 0} (a b : List X) → take (length a) (a ++ b) ≡ a
 take_front [] b = refl
 take_front (x ∷ a) b = ap (λ more. x ∷ more) (take_front a b)
 
-drop_front : {X : Type 0} (a b : List X) → drop (length a) (a ++ b) ≡ b
+pub drop_front : {X : Type 0} (a b : List X) → drop (length a) (a ++ b) ≡ b
 drop_front [] b = refl
 drop_front (x ∷ a) b = drop_front a b
 

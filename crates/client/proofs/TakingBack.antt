@@ -1,17 +1,25 @@
 -- Segments are given back one after the other: what the granter took of them.
-use Rattle.std.proofs.Common.{◌≡◌, ℕ, zero, suc, ◌+◌, ◌-◌, ◌<◌, ◌≤◌, nat_lt, Bool, true, false, List, [], ◌∷◌, ◌++◌, length, map, take, drop, reverse, Option, Some, None, option_map, refl, sym, ap, subst, ◌∙◌, inl, inr, arith, length-append}
+use Rattle.std.proofs.Common.{◌≡◌, ℕ, zero, suc, ◌+◌, ◌-◌, ◌<◌, ◌≤◌, nat_lt, Bool, true, false, List, [], ◌∷◌, ◌++◌, length, map, take, drop, reverse, Option, Some, None, option_map, refl, sym, ap, subst, ◌∙◌, inl, inr, arith, length-append, append_assoc, take-append-drop}
 use Rattle.std.specs.List.{slice_get, remove}
-use Rattle.std.proofs.lemmas.List.{reverse-append}
+use Rattle.std.proofs.lemmas.List.{reverse-append, length-take-le}
 use Rattle.std.proofs.lemmas.Bool.{lt-ltb}
 use Rattle.std.proofs.lemmas.Option.{none-some, same_Some, slice_get_within, slice_get_cases}
 use Rattle.segment.specs.Owned.{Owned}
 use Rattle.client.specs.Gone.{next_of, after_next, kept_sides}
 use Rattle.client.specs.Lease.{Lease}
 use Rattle.client.specs.Seen.{Seen, next_untold}
-use Rattle.client.specs.Calls.{TakesOut, TakesLast}
+use Rattle.segment.specs.declared.owner.Lock.{Lock}
+use Rattle.segment.specs.declared.owner.Lock.TheVariants.{Held, Gone}
+use Rattle.span_heap.specs.declared.run.Run.{Run}
+use Rattle.span_heap.specs.Pick.{pick}
+use Rattle.client.specs.Pieces.{Part}
+use Rattle.client.specs.Calls.{TakesOut, TakesLast, LocksRun}
+use Rattle.client.specs.Finding.{Finds, Serves, Carves, slack_of}
+use Rattle.client.specs.GivingUp.{FindsGone, KeepsUntold}
 use Rattle.client.specs.Granting.{GivesSide}
-use Rattle.client.specs.TakenBack.{Return, TookAll, IsReturned, AreReturned, gone_returns, untold_returns}
+use Rattle.client.specs.TakenBack.{Return, TookAll, IsReturned, AreReturned, gone_returns, untold_returns, CameFrom}
 use Rattle.client.proofs.GivingBack.{next_some, next_none}
+use Rattle.client.proofs.GivenUp.{drop_front}
 
 -- what is still to come back makes up, with what came, all of these segments
 abbrev pub ReturnsOn : {G : Type 0} → (ℕ → ℕ → Option (List ℕ) → G → G → Type 0) → ℕ → List Lease → G → List Lease → G → Type 0
@@ -105,3 +113,48 @@ number_out now mid place side out = out.leaves.name.number
 pub given_leases : (whole : Bool) (side : Owned) (old new : Seen) → GivesSide whole side old new → new.leases ≡ old.leases
 given_leases true side old new (gave, is) = ap (λ (s : Seen). s.leases) is
 given_leases false side old new (gone, goes, is) = ap (λ (s : Seen). s.leases) is
+
+-- what a search leaves of a client: its number, and how many gone sides are told
+pub record KeepsTold (old new : Seen) : Type 0 where
+  pub number : new.number ≡ old.number
+  pub told : new.told ≡ old.told
+
+told_on : (one two three : Seen) → KeepsTold one two → KeepsTold two three → KeepsTold one three
+told_on one two three first second = record { number = second.number ∙ first.number; told = second.told ∙ first.told }
+
+told_carved : (run : Run) (pages : ℕ) (old new : Seen) → Carves run pages old new → KeepsTold old new
+told_carved run pages old new carves = record { number = ap (λ (s : Seen). s.number) carves.same; told = ap (λ (s : Seen). s.told) carves.same }
+
+told_locked : (run : Run) (answer : Lock) (old new : Seen) → LocksRun run answer old new → KeepsTold old new
+told_locked run Held old new locks = record { number = locks.after.name.number; told = locks.after.gone.told }
+told_locked run Gone old new locks = record { number = locks.after.leaves.name.number; told = locks.after.told }
+
+told_serves : (picked : Option Run) (pages : ℕ) (found : Option Part) (old new : Seen) → Serves picked pages found old new → KeepsTold old new
+told_serves None pages found old new (none, is) = record { number = ap (λ (s : Seen). s.number) is; told = ap (λ (s : Seen). s.told) is }
+told_serves (Some run) pages found old new (is, between, carves, locks) = told_on old between new (told_carved run pages old between carves) (told_locked _ Held between new locks)
+
+pub told_found : (pages : ℕ) (lost : List ℕ) (found : Option Part) (old new : Seen) → Finds pages lost found old new → KeepsTold old new
+told_found pages [] found old new finds = told_serves (pick old.heap.free pages (slack_of old pages)) pages found old new finds
+told_found pages (id ∷ lost) found old new (run, carved, between, picked, number, carves, locks, finds) =
+    told_on old between new (told_on old carved between (told_carved run pages old carved carves) (told_locked _ Gone carved between locks)) (told_found pages lost found between new finds)
+
+-- after a search the untold ones are told, and then a segment comes
+pub asked : {G : Type 0} (granted : ℕ → Owned → G → G → Type 0) (took : ℕ → ℕ → Option (List ℕ) → G → G → Type 0) (pages : ℕ) (part : Part) (old new missed released : Seen) (first between last : G)
+    → KeepsTold old missed → released.number ≡ missed.number → TookAll took missed.number (gone_returns (drop missed.told released.gone)) first between
+    → CameFrom granted released.number pages part released new between last
+    → TookAll took old.number (gone_returns (drop old.told released.gone)) first between × CameFrom granted old.number pages part released new between last
+asked granted took pages part old new missed released first between last kept same told came = (
+  subst (λ (n : ℕ). TookAll took old.number (gone_returns (drop n released.gone)) first between) kept.told
+  (subst (λ (n : ℕ). TookAll took n (gone_returns (drop missed.told released.gone)) first between) kept.number told),
+  subst (λ (n : ℕ). CameFrom granted n pages part released new between last) (same ∙ kept.number) came,
+)
+
+-- the untold ones stay untold where segments are given up
+pub untold_stay : (left : List Lease) (old new : Seen) → old.told ≤ length old.gone → FindsGone left old new.gone → KeepsUntold old new → untold_returns new ≡ untold_returns old
+untold_stay left old new within finds keeps =
+    let front = take old.told old.gone in
+    let back = drop old.told old.gone in
+    let whole : new.gone ≡ (front ++ finds.found) ++ back = finds.sides in
+    let long : new.told ≡ length (front ++ finds.found) =
+        omega (arith, keeps.told, ap length whole, length-append (front ++ finds.found) back, length-append front back, ap length (take-append-drop old.told old.gone), length-take-le old.told old.gone within) in
+    ap gone_returns (rw (whole, long) (drop_front (front ++ finds.found) back))
