@@ -1,11 +1,12 @@
 -- Segments are given back one after the other: what the granter took of them.
 use Rattle.std.proofs.Common.{◌≡◌, ℕ, zero, suc, ◌+◌, ◌-◌, ◌<◌, ◌≤◌, nat_lt, Bool, true, false, List, [], ◌∷◌, ◌++◌, length, map, take, drop, reverse, Option, Some, None, option_map, refl, sym, ap, subst, ◌∙◌, inl, inr, arith, length-append, append_assoc, take-append-drop}
-use Rattle.std.specs.List.{slice_get, remove}
+use Rattle.std.specs.List.{slice_get, remove, Contains}
 use Rattle.std.proofs.lemmas.List.{reverse-append, length-take-le}
 use Rattle.std.proofs.lemmas.Bool.{lt-ltb}
+use Rattle.std.proofs.lemmas.List.Elements.{Contains-append_cases, Contains-append_left, Contains-append_right}
 use Rattle.std.proofs.lemmas.Option.{none-some, same_Some, slice_get_within, slice_get_cases}
 use Rattle.segment.specs.Owned.{Owned}
-use Rattle.client.specs.Gone.{next_of, after_next, kept_sides}
+use Rattle.client.specs.Gone.{next_of, after_next, kept_side, kept_sides}
 use Rattle.client.specs.Lease.{Lease}
 use Rattle.client.specs.Seen.{Seen, next_untold}
 use Rattle.segment.specs.declared.owner.Lock.{Lock}
@@ -20,23 +21,50 @@ use Rattle.client.specs.Granting.{GivesSide}
 use Rattle.client.specs.TakenBack.{Return, TookAll, IsReturned, AreReturned, gone_returns, untold_returns, CameFrom}
 use Rattle.client.proofs.GivingBack.{next_some, next_none}
 use Rattle.client.proofs.GivenUp.{drop_front}
+use Rattle.client.proofs.Rows.{Contains-at, Contains-cons}
 
--- what is still to come back makes up, with what came, all of these segments
-abbrev pub ReturnsOn : {G : Type 0} → (ℕ → ℕ → Option (List ℕ) → G → G → Type 0) → ℕ → List Lease → G → List Lease → G → Type 0
-ReturnsOn {G} took number start first rest now = (returns : List Return) (last : G) → AreReturned rest returns → TookAll took number returns now last
-    → (all : List Return) × AreReturned start all × TookAll took number all first last
+-- each of these sides is among those
+abbrev pub AreAmong : List Owned → List Owned → Type 0
+AreAmong sides others = (side : Owned) → Contains sides side → Contains others side
 
-pub returns_first : {G : Type 0} (took : ℕ → ℕ → Option (List ℕ) → G → G → Type 0) (number : ℕ) (start : List Lease) (first : G) → ReturnsOn took number start first start first
-returns_first took number start first = λ returns last are all. (returns, are, all)
+-- what is still to come back makes up, with what came, all of these segments; of those that came the gone ones are among these sides
+abbrev pub ReturnsOn : {G : Type 0} → (ℕ → ℕ → Option (List ℕ) → G → G → Type 0) → ℕ → List Lease → G → List Owned → List Lease → G → Type 0
+ReturnsOn {G} took number start first sides rest now = (returns : List Return) (last : G) (gone : List Owned) → AreAmong sides gone → AreReturned gone rest returns → TookAll took number returns now last
+    → (all : List Return) × AreReturned gone start all × TookAll took number all first last
 
-pub returns_one : {G : Type 0} (took : ℕ → ℕ → Option (List ℕ) → G → G → Type 0) (number : ℕ) (start : List Lease) (first now next : G) (lease : Lease) (rest left : List Lease)
-    → ReturnsOn took number start first rest now → rest ≡ lease ∷ left → ((one : Return) × IsReturned lease.side one × took number one.0 one.1 now next) → ReturnsOn took number start first left next
-returns_one took number start first now next lease rest left on is back = λ returns last are all.
-    on (back.0 ∷ returns) last (subst (λ (ls : List Lease). AreReturned ls (back.0 ∷ returns)) (sym is) (back.1, are)) (next, back.2, all)
+pub returns_first : {G : Type 0} (took : ℕ → ℕ → Option (List ℕ) → G → G → Type 0) (number : ℕ) (start : List Lease) (first : G) (sides : List Owned) → ReturnsOn took number start first sides start first
+returns_first took number start first sides = λ returns last gone among are all. (returns, are, all)
 
-pub returns_last : {G : Type 0} (took : ℕ → ℕ → Option (List ℕ) → G → G → Type 0) (number : ℕ) (start : List Lease) (first : G) (rest : List Lease) (now : G)
-    → ReturnsOn took number start first rest now → rest ≡ [] → (all : List Return) × AreReturned start all × TookAll took number all first now
-returns_last took number start first rest now on none = on [] now (subst (λ (ls : List Lease). AreReturned ls []) (sym none) tt) refl
+returned_among : (sides gone : List Owned) (side : Owned) (one : Return) → AreAmong sides gone → IsReturned sides side one → IsReturned gone side one
+returned_among sides gone side (id, Some block) among back = back
+returned_among sides gone side (id, None) among (is, lost, goes, there) = (is, lost, goes, among lost there)
+
+pub returns_one : {G : Type 0} (took : ℕ → ℕ → Option (List ℕ) → G → G → Type 0) (number : ℕ) (start : List Lease) (first now next : G) (sides more : List Owned) (lease : Lease) (rest left : List Lease)
+    → ReturnsOn took number start first sides rest now → AreAmong sides more → rest ≡ lease ∷ left → ((one : Return) × IsReturned more lease.side one × took number one.0 one.1 now next)
+    → ReturnsOn took number start first more left next
+returns_one took number start first now next sides more lease rest left on stay is back = λ returns last gone among are all.
+    on (back.0 ∷ returns) last gone (λ side there. among side (stay side there))
+    (subst (λ (ls : List Lease). AreReturned gone ls (back.0 ∷ returns)) (sym is) (returned_among more gone lease.side back.0 among back.1, are)) (next, back.2, all)
+
+pub returns_last : {G : Type 0} (took : ℕ → ℕ → Option (List ℕ) → G → G → Type 0) (number : ℕ) (start : List Lease) (first : G) (sides : List Owned) (rest : List Lease) (now : G)
+    → ReturnsOn took number start first sides rest now → rest ≡ [] → (all : List Return) × AreReturned sides start all × TookAll took number all first now
+returns_last took number start first sides rest now on none = on [] now sides (λ side there. there) (subst (λ (ls : List Lease). AreReturned sides ls []) (sym none) tt) refl
+
+-- a side that is given up leaves the gone ones among the gone ones
+kept_among : (side one : Owned) (told : ℕ) (gone : List Owned) → Contains gone one → Contains (kept_side side told gone) one
+kept_among side one told gone there =
+    elim (Contains-append_cases (take told gone) (drop told gone) one (subst (λ (sides : List Owned). Contains sides one) (sym (take-append-drop told gone)) there)) [
+      | inl front ↦ Contains-append_left (take told gone) (side ∷ drop told gone) one front
+      | inr back ↦ Contains-append_right (take told gone) (side ∷ drop told gone) one (Contains-cons (drop told gone) side one back)
+    ]
+
+pub given_among : (whole : Bool) (side : Owned) (old new : Seen) → GivesSide whole side old new → AreAmong old.gone new.gone
+given_among true side old new (gave, is) = λ one there. subst (λ (s : Seen). Contains s.gone one) (sym is) there
+given_among false side old new (gone, goes, is) = λ one there. subst (λ (s : Seen). Contains s.gone one) (sym is) (kept_among gone one old.told old.gone there)
+
+-- the side that is kept is among the gone ones
+pub kept_here : (side : Owned) (told : ℕ) (gone : List Owned) → Contains (kept_side side told gone) side
+kept_here side told gone = Contains-append_right (take told gone) (side ∷ drop told gone) side (Contains-at (side ∷ drop told gone) 0 side refl)
 
 -- the last of a list, and those before it
 reverse_cons : {X : Type 0} (y : X) (xs : List X) → reverse (y ∷ xs) ≡ reverse xs ++ y ∷ []
@@ -89,7 +117,7 @@ tells_one took start first now next old new id on some is told =
     let more : after_next now.gone now.told ≡ suc now.told = rw (lt-ltb now.told (length now.gone) less) (omega arith) in
     let same : next ≡ record now { told = suc now.told } = is ∙ ap (λ (n : ℕ). record now { told = n }) more in
     let untold : untold_returns now ≡ (id, None) ∷ gone_returns (drop (suc now.told) now.gone) =
-        ap gone_returns (drop_at now.gone now.told found.0 found.1) ∙ ap (λ (n : ℕ). (n, None) ∷ gone_returns (drop (suc now.told) now.gone)) found.2 in
+    ap gone_returns (drop_at now.gone now.told found.0 found.1) ∙ ap (λ (n : ℕ). (n, None) ∷ gone_returns (drop (suc now.told) now.gone)) found.2 in
     λ last all. on last (subst (λ returns. TookAll took now.number returns old last) (sym untold) (new, told, subst (λ (s : Seen). TookAll took s.number (untold_returns s) new last) same all))
 
 -- all were told
@@ -100,10 +128,10 @@ tells_last took start first now old on none =
     on old (subst (λ returns. TookAll took now.number returns old old) (sym untold) refl)
 
 -- what came back of a side came back of its segment, under the client's number
-pub of_lease : {G : Type 0} (took : ℕ → ℕ → Option (List ℕ) → G → G → Type 0) (side : Owned) (lease : Lease) {number start : ℕ} {old new : G} → side ≡ lease.side → number ≡ start
-    → ((one : Return) × IsReturned side one × took number one.0 one.1 old new) → (one : Return) × IsReturned lease.side one × took start one.0 one.1 old new
-of_lease took side lease {number} {start} {old} {new} is same back =
-    (back.0, subst (λ (s : Owned). IsReturned s back.0) is back.1, subst (λ (n : ℕ). took n back.0.0 back.0.1 old new) same back.2)
+pub of_lease : {G : Type 0} (took : ℕ → ℕ → Option (List ℕ) → G → G → Type 0) (gone : List Owned) (side : Owned) (lease : Lease) {number start : ℕ} {old new : G} → side ≡ lease.side → number ≡ start
+    → ((one : Return) × IsReturned gone side one × took number one.0 one.1 old new) → (one : Return) × IsReturned gone lease.side one × took start one.0 one.1 old new
+of_lease took gone side lease {number} {start} {old} {new} is same back =
+    (back.0, subst (λ (s : Owned). IsReturned gone s back.0) is back.1, subst (λ (n : ℕ). took n back.0.0 back.0.1 old new) same back.2)
 
 -- a side that is taken out leaves the client its number
 pub number_out : (now mid : Seen) (place : ℕ) (side : Owned) → TakesOut place side now mid → mid.number ≡ now.number
@@ -145,7 +173,7 @@ pub asked : {G : Type 0} (granted : ℕ → Owned → G → G → Type 0) (took 
     → TookAll took old.number (gone_returns (drop old.told released.gone)) first between × CameFrom granted old.number pages part released new between last
 asked granted took pages part old new missed released first between last kept same told came = (
   subst (λ (n : ℕ). TookAll took old.number (gone_returns (drop n released.gone)) first between) kept.told
-  (subst (λ (n : ℕ). TookAll took n (gone_returns (drop missed.told released.gone)) first between) kept.number told),
+      (subst (λ (n : ℕ). TookAll took n (gone_returns (drop missed.told released.gone)) first between) kept.number told),
   subst (λ (n : ℕ). CameFrom granted n pages part released new between last) (same ∙ kept.number) came,
 )
 
@@ -156,5 +184,9 @@ untold_stay left old new within finds keeps =
     let back = drop old.told old.gone in
     let whole : new.gone ≡ (front ++ finds.found) ++ back = finds.sides in
     let long : new.told ≡ length (front ++ finds.found) =
-        omega (arith, keeps.told, ap length whole, length-append (front ++ finds.found) back, length-append front back, ap length (take-append-drop old.told old.gone), length-take-le old.told old.gone within) in
+    omega (arith, keeps.told, ap length whole, length-append (front ++ finds.found) back, length-append front back, ap length (take-append-drop old.told old.gone), length-take-le old.told old.gone within) in
     ap gone_returns (rw (whole, long) (drop_front (front ++ finds.found) back))
+
+-- a side that is taken out and given up leaves the gone ones among the gone ones
+pub among_out : (whole : Bool) (side : Owned) (now mid next : Seen) (place : ℕ) → TakesOut place side now mid → GivesSide whole side mid next → AreAmong now.gone next.gone
+among_out whole side now mid next place out gives = λ one there. given_among whole side mid next gives one (subst (λ (sides : List Owned). Contains sides one) (sym out.gone) there)

@@ -1,5 +1,5 @@
 -- What a granter took back of a client: which segments, in which order, each with its block or with none.
-use Rattle.std.specs.Prelude.{◌≡◌, ◌⊎◌, ℕ, List, [], ◌∷◌, map, drop, Option, Some, None}
+use Rattle.std.specs.Prelude.{◌≡◌, ◌⊎◌, ℕ, List, [], ◌∷◌, map, drop, Contains, Option, Some, None}
 use Rattle.segment.specs.Owned.{Owned}
 use Rattle.segment.specs.Ends.{GivesUp}
 use Rattle.segment.specs.declared.giving.GiveUp.TheVariants as end
@@ -19,16 +19,16 @@ abbrev pub TookAll : {G : Type 0} → (ℕ → ℕ → Option (List ℕ) → G �
 TookAll took client [] old new = new ≡ old
 TookAll {G} took client (one ∷ more) old new = (between : G) × took client one.0 one.1 old between × TookAll took client more between new
 
--- the return is that of this side: its own number, with the block that the side gave, or with none where it is gone
-abbrev pub IsReturned : Owned → Return → Type 0
-IsReturned side (id, Some block) = (id ≡ side.id) × GivesUp side.phase side (end.Whole block)
-IsReturned side (id, None) = (id ≡ side.id) × ((gone : Owned) × GoesGone side gone)
+-- the return is that of this side: its own number, with the block that the side gave, or with none where it is gone as one of these sides
+abbrev pub IsReturned : List Owned → Owned → Return → Type 0
+IsReturned gone side (id, Some block) = (id ≡ side.id) × GivesUp side.phase side (end.Whole block)
+IsReturned gone side (id, None) = (id ≡ side.id) × (lost : Owned) × GoesGone side lost × Contains gone lost
 
--- these are the returns of these segments, in their order
-abbrev pub AreReturned : List Lease → List Return → Type 0
-AreReturned [] [] = Unit {0}
-AreReturned (lease ∷ leases) (one ∷ more) = IsReturned lease.side one × AreReturned leases more
-AreReturned leases returns = ⊥
+-- these are the returns of these segments, in their order, each with its block, or with none where it is gone as one of these sides
+abbrev pub AreReturned : List Owned → List Lease → List Return → Type 0
+AreReturned gone [] [] = Unit {0}
+AreReturned gone (lease ∷ leases) (one ∷ more) = IsReturned gone lease.side one × AreReturned gone leases more
+AreReturned gone leases returns = ⊥
 
 -- the returns of these gone sides: their numbers, with no block
 abbrev pub gone_returns : List Owned → List Return
@@ -54,4 +54,4 @@ abbrev pub AskedFor : {G : Type 0} → (ℕ → Owned → G → G → Type 0) �
 AskedFor {G} granted took pages part old new =
     (new.granter ≡ old.granter)
     ⊎ ((released : Seen) × (between : G) × TookAll took old.client.number (gone_returns (drop old.client.told released.gone)) old.granter between
-      × CameFrom granted old.client.number pages part released new.client between new.granter)
+    × CameFrom granted old.client.number pages part released new.client between new.granter)

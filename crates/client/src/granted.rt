@@ -291,8 +291,8 @@ impl<G: Granter + Drop> Granted<G> {
     pub fn release_free<H: Threads + Wait + Sync>(&mut self, rt: &H) -> u64
         ensures whole { CameWhole result self.old.client self.new.client }
         ensures took { (returns : List Return)
-            × AreReturned (filter (is_all_free self.old.client.heap.used) self.old.client.leases)
-            returns
+            × AreReturned self.new.client.gone
+            (filter (is_all_free self.old.client.heap.used) self.old.client.leases) returns
             × TookAll G.took_back self.old.client.number returns
             self.old.granter self.new.granter }
         ensures left { LeavesUsed self.old.client self.new.client }
@@ -333,7 +333,7 @@ impl<G: Granter + Drop> Granted<G> {
     pub fn close_with<H: Threads + Wait + Sync>(self, rt: &H) -> (ClientEnd, G)
         ensures end { result.0.grants ≡ self.grants }
         ensures took { (returns : List Return) × (between : G)
-            × AreReturned (reverse self.client.leases) returns
+            × AreReturned result.0.gone (reverse self.client.leases) returns
             × TookAll G.took_back self.client.number returns self.granter between
             × TookAll G.took_back self.client.number (untold_returns self.client)
             between result.1 }

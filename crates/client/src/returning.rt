@@ -46,7 +46,7 @@ pub(crate) fn give_back_side<G: Granter, H: Threads + Wait + Sync>(
     requires taken { 1 ≤ client.old.taken }
     requires unknown { IsUnknown side.id client.old }
     ensures client { GivesSide result side client.old client.new }
-    ensures took { (one : Return) × IsReturned side one
+    ensures took { (one : Return) × IsReturned client.new.gone side one
         × G.took_back client.old.number one.0 one.1 granter.old granter.new }
     ensures stay { AllStay client.old client.new }
     ensures returns { G.returns granter.new ≡ next_count (G.returns granter.old) }
@@ -101,7 +101,8 @@ pub(crate) fn give_back_free<G: Granter, H: Threads + Wait + Sync>(
         client.old client.new }
     ensures whole { CameWhole result client.old client.new }
     ensures took { (returns : List Return)
-        × AreReturned (filter (is_all_free client.old.heap.used) client.old.leases) returns
+        × AreReturned client.new.gone
+        (filter (is_all_free client.old.heap.used) client.old.leases) returns
         × TookAll G.took_back client.old.number returns granter.old granter.new }
     ensures left { LeavesUsed client.old client.new }
     ensures none { NoneAllFree client.new }
@@ -133,7 +134,8 @@ pub(crate) fn give_back_all<G: Granter, H: Threads + Wait + Sync>(
 )
     ensures returns { Returns (G.returns granter.old) (G.returns granter.new)
         client.old client.new }
-    ensures took { (returns : List Return) × AreReturned (reverse client.old.leases) returns
+    ensures took { (returns : List Return)
+        × AreReturned client.new.gone (reverse client.old.leases) returns
         × TookAll G.took_back client.old.number returns granter.old granter.new }
     ensures none { client.new.leases ≡ [] }
     ensures found { FindsGone client.old.leases client.old client.new.gone }

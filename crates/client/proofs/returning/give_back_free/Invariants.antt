@@ -13,7 +13,7 @@ invariant-loop-side g l = record {
   returns : Returns (g.G.Granter.returns l.fn.granter) (g.G.Granter.returns l.granter) l.fn.client l.client;
   whole : CameWhole l.whole l.fn.client l.client;
   leaves : Leaving l.fn.client l.client;
-  back : ReturnsOn g.G.Granter.took_back l.fn.client.number (filter (is_all_free l.fn.client.heap.used) l.fn.client.leases) l.fn.granter (filter (is_all_free l.fn.client.heap.used) l.client.leases) l.granter;
+  back : ReturnsOn g.G.Granter.took_back l.fn.client.number (filter (is_all_free l.fn.client.heap.used) l.fn.client.leases) l.fn.granter l.client.gone (filter (is_all_free l.fn.client.heap.used) l.client.leases) l.granter;
   stay : AllStay l.fn.client l.client;
   giving : Giving (filter (is_all_free l.fn.client.heap.used) l.fn.client.leases) l.fn.client l.client;
   grants : g.G.Granter.grants l.granter ≡ g.G.Granter.grants l.fn.granter;

@@ -45,5 +45,6 @@ returns-clause-took g c =
     let back = c.give_back_all.ensures.took in
     let same = untold_stay c.self.inside.client.leases c.self.inside.client c.give_back_all.new.client c.self.invariant.0.told c.give_back_all.ensures.found c.give_back_all.ensures.told in
     let told = subst (λ (n : ℕ). TookAll g.G.Granter.took_back n (untold_returns c.self.inside.client) c.give_back_all.new.granter c.tell_all.new.granter) c.give_back_all.ensures.returns.number
-        (subst (λ (returns : List Return). TookAll g.G.Granter.took_back c.give_back_all.new.client.number returns c.give_back_all.new.granter c.tell_all.new.granter) same c.tell_all.ensures.took) in
-    rw (← c.self.view_is) (back.0, c.give_back_all.new.granter, back.1, back.2, told)
+    (subst (λ (returns : List Return). TookAll g.G.Granter.took_back c.give_back_all.new.client.number returns c.give_back_all.new.granter c.tell_all.new.granter) same c.tell_all.ensures.took) in
+    let gone = c.into_gone.ensures.sides ∙ ap (λ (s : Seen). s.gone) c.tell_all.ensures.client in
+    rw (← c.self.view_is, c.of-gone.ensures, gone) (back.0, c.give_back_all.new.granter, back.1, back.2, told)
