@@ -113,13 +113,35 @@ numbers_pushed leases lease id =
     let f : Lease → ℕ = λ l. is_id id l.side.id in
     omega (arith, sum_by-map (is_id id) (λ (l : Lease). l.side.id) (leases ++ lease ∷ []), sum_by-map (is_id id) (λ (l : Lease). l.side.id) leases, sum_by_push f leases lease)
 
+-- a side that was taken out gave its block: the client is kept
+pub kept_whole : (seen : Seen) (pages room : ℕ) → IsSoundClient seen pages room → IsSoundClient (record seen { taken = seen.taken - 1 }) pages room
+kept_whole seen pages room kept =
+    let sound = kept.sound in
+    record {
+      sound = record {
+        numbered = sound.numbered;
+        sized = sound.sized;
+        segments = sound.segments;
+        partition = sound.partition;
+        leases = sound.leases;
+        locked = sound.locked;
+        live = sound.live;
+        once = sound.once;
+        told = sound.told;
+      };
+      counted = kept.counted;
+      small = kept.small;
+      roomy = omega (arith, kept.roomy);
+      full = kept.full;
+    }
+
 both' : (b : Bool) → b ≡ true → b ≡ false → ⊥
 both' b e f = cc
 
 -- A segment came: the client is kept.
 pub kept_adopted : (seen : Seen) (heap : Contents) (side : Owned) (locks : List Bool) (leases : List Lease) (span : Run) (whole pages all room room' : ℕ) → IsSoundClient seen all room → side.phase ≡ phase.Held → side.pages ≡ whole → IsUnknown side.id seen → 1 ≤ pages → pages ≤ whole
-    → IsFrontLocked whole pages locks → GrowsFront seen.heap heap side.id whole pages span → IsPartition heap → leases ≡ seen.leases ++ record { side = side; locks = locks } ∷ [] → length seen.leases + 1 ≤ room' → room' < 2 ^ 64 → size_of seen.heap.segments + whole < 2 ^ 32
-    → IsSoundClient (record seen { leases = leases; heap = heap; taken = 0 }) (all + whole) room'
+    → IsFrontLocked whole pages locks → GrowsFront seen.heap heap side.id whole pages span → IsPartition heap → leases ≡ seen.leases ++ record { side = side; locks = locks } ∷ [] → length seen.leases + 1 + seen.taken ≤ room' → room' < 2 ^ 64 → size_of seen.heap.segments + whole < 2 ^ 32
+    → IsSoundClient (record seen { leases = leases; heap = heap }) (all + whole) room'
 kept_adopted seen heap side locks leases span whole pages all room room' kept held size unknown some less front grows partition leases_is roomy full small =
     let sound = kept.sound in
     let lease : Lease = record { side = side; locks = locks } in
@@ -173,7 +195,7 @@ known_segment seen part id owns unknown =
 
 -- what an adoption does
 pub adopted : (old new : Seen) (side : Owned) (locks : List Bool) (span : Run) (whole pages : ℕ) (part : Part) → side.pages ≡ whole → IsUnknown side.id old → 1 ≤ pages → pages ≤ whole → IsFrontLocked whole pages locks → GrowsFront old.heap new.heap side.id whole pages span
-    → new ≡ record old { leases = old.leases ++ record { side = side; locks = locks } ∷ []; heap = new.heap; taken = 0 } → part ≡ record { client = old.number; run = span; locked = true } → Adopts side pages part old new × IsNew pages old new part × AllStay old new
+    → new ≡ record old { leases = old.leases ++ record { side = side; locks = locks } ∷ []; heap = new.heap } → part ≡ record { client = old.number; run = span; locked = true } → Adopts side pages part old new × IsNew pages old new part × AllStay old new
 adopted old new side locks span whole pages part size unknown some less front grows new_is part_is =
     let lease : Lease = record { side = side; locks = locks } in
     let leases : new.leases ≡ old.leases ++ lease ∷ [] = ap (λ (s : Seen). s.leases) new_is in

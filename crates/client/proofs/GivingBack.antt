@@ -10,13 +10,17 @@ use Rattle.std.proofs.lemmas.List.Folds.{list_any-append, list_any_none}
 use Rattle.std.proofs.lemmas.Option.{none-some, slice_get_cases}
 use Rattle.units.specs.Count.{next_count}
 use Rattle.segment.specs.Owned.{Owned}
+use Rattle.segment.specs.Ends.{GivesUp}
+use Rattle.segment.specs.declared.owner.Phase.{Phase}
+use Rattle.segment.specs.declared.owner.Phase.TheVariants as phase
+use Rattle.segment.specs.declared.giving.GiveUp.TheVariants as end
 use Rattle.client.specs.Gone.{Includes, kept_side, next_of, after_next}
 use Rattle.client.specs.Lease.{Lease}
 use Rattle.client.specs.Seen.{Seen, next_untold, IsUnknown, numbers_of}
 use Rattle.client.specs.Pieces.{Part}
 use Rattle.client.specs.Calls.{TakesOut}
 use Rattle.client.specs.Finding.{Adopts}
-use Rattle.client.specs.Granting.{owed, IsBelow, IsBalanced, IsSettled, Returns, CameWhole, GivesSide, Tracks, all_told, LAST_COUNT}
+use Rattle.client.specs.Granting.{owed, IsBelow, IsBalanced, IsSettled, Returns, CameWhole, GivesSide, Tracks, ReturnsOwed, all_told, LAST_COUNT}
 use Rattle.client.proofs.Rows.{All-at, All-remove}
 use Rattle.client.proofs.Debts.{KeepsDebt}
 
@@ -30,14 +34,14 @@ pub record Telling (start now : Seen) (returns_then returns_now : ℕ) : Type 0 
 pub telling_start : (seen : Seen) (r : ℕ) → seen.told ≤ length seen.gone → Telling seen seen r r
 telling_start seen r within = record { is = refl; more = omega arith; within = within; counted = λ _. omega arith }
 
-next_some : (gone : List Owned) (told id : ℕ) → next_of gone told ≡ Some id → told < length gone
+pub next_some : (gone : List Owned) (told id : ℕ) → next_of gone told ≡ Some id → told < length gone
 next_some gone told id e =
     elim (slice_get_cases gone told).1 [
       | inl (side, within, at, is) ↦ within
       | inr (past, none) ↦ absurd (none-some id (sym (ap (option_map (λ (s : Owned). s.id)) none) ∙ e))
     ]
 
-next_none : (gone : List Owned) (told : ℕ) → next_of gone told ≡ None → length gone ≤ told
+pub next_none : (gone : List Owned) (told : ℕ) → next_of gone told ≡ None → length gone ≤ told
 next_none gone told e =
     elim (slice_get_cases gone told).1 [
       | inl (side, within, at, is) ↦ absurd (none-some side.id (sym e ∙ ap (option_map (λ (s : Owned). s.id)) at))
@@ -95,6 +99,12 @@ below_kept bound side told gone at all =
     All-append (λ (s : Owned). s.id ≤ bound) (take told gone) (side ∷ drop told gone) (All-take (λ (s : Owned). s.id ≤ bound) told gone all)
     (All-cons (λ (s : Owned). s.id ≤ bound) side (drop told gone) at (All-drop (λ (s : Owned). s.id ≤ bound) told gone all))
 
+-- a side that went gone has the number that it had
+pub goes_same : (phase : Phase) (side gone : Owned) → GivesUp phase side (end.Gone gone) → gone.id ≡ side.id
+goes_same phase.Held side gone never = absurd never
+goes_same phase.Idle side gone is = ap (λ (s : Owned). s.id) is
+goes_same phase.Gone side gone is = ap (λ (s : Owned). s.id) is
+
 -- what one segment that was taken out and given back leaves
 record Given (old new : Seen) (whole : Bool) : Type 0 where
   fewer : length new.leases + 1 ≡ length old.leases
@@ -105,8 +115,8 @@ record Given (old new : Seen) (whole : Bool) : Type 0 where
   longer : length new.gone + cond {A = ℕ} whole 1 0 ≡ length old.gone + 1
   gone : Includes old.gone new.gone
 
-given : (whole : Bool) (old mid new : Seen) (place : ℕ) (side : Owned) → TakesOut place side old mid → GivesSide whole side.id mid new → Given old new whole
-given true old mid new place side out is =
+given : (whole : Bool) (old mid new : Seen) (place : ℕ) (side : Owned) → TakesOut place side old mid → GivesSide whole side mid new → Given old new whole
+given true old mid new place side out (gave, is) =
     let leaves = out.leaves in
     rw is (record {
       fewer = leaves.fewer;
@@ -117,8 +127,9 @@ given true old mid new place side out is =
       longer = omega (arith, ap length out.gone);
       gone = λ weight. rw out.gone (omega arith);
     })
-given false old mid new place side out (s, same, is) =
+given false old mid new place side out (s, goes, is) =
     let leaves = out.leaves in
+    let same : s.id ≡ side.id = goes_same side.phase side s goes.0 in
     let id : side.id ≡ out.lease.side.id = ap (λ (x : Owned). x.id) out.side_is in
     let longer = longer_kept s mid.told mid.gone in
     rw is (record {
@@ -134,7 +145,7 @@ given false old mid new place side out (s, same, is) =
       gone = λ weight. omega (arith, kept_sum weight s mid.told mid.gone, ap (sum_by weight) out.gone);
     })
 
-pub returns_on : (whole : Bool) (start now mid next : Seen) (r0 r r' : ℕ) (place : ℕ) (side : Owned) → Returns r0 r start now → TakesOut place side now mid → GivesSide whole side.id mid next → r' ≡ next_count r
+pub returns_on : (whole : Bool) (start now mid next : Seen) (r0 r r' : ℕ) (place : ℕ) (side : Owned) → Returns r0 r start now → TakesOut place side now mid → GivesSide whole side mid next → r' ≡ next_count r
     → Returns r0 r' start next
 returns_on whole start now mid next r0 r r' place side returns out gives counted =
     let one = given whole now mid next place side out gives in
@@ -150,18 +161,18 @@ returns_on whole start now mid next r0 r r' place side returns out gives counted
       gone = λ weight. omega (arith, returns.gone weight, one.gone weight);
     }
 
-pub giving_whole : (start now mid next : Seen) (n n' : ℕ) (place : ℕ) (side : Owned) → CameWhole n start now → TakesOut place side now mid → GivesSide true side.id mid next → n' ≡ min (n + 1) LAST_COUNT → CameWhole n' start next
+pub giving_whole : (start now mid next : Seen) (n n' : ℕ) (place : ℕ) (side : Owned) → CameWhole n start now → TakesOut place side now mid → GivesSide true side mid next → n' ≡ min (n + 1) LAST_COUNT → CameWhole n' start next
 giving_whole start now mid next n n' place side came out gives more low =
     let one = given true now mid next place side out gives in
     let was : n < LAST_COUNT = omega (arith, low, more) in
     omega (arith, low, more, came was, one.fewer, one.longer)
 
-pub giving_gone : (start now mid next : Seen) (n : ℕ) (place : ℕ) (side : Owned) → CameWhole n start now → TakesOut place side now mid → GivesSide false side.id mid next → CameWhole n start next
+pub giving_gone : (start now mid next : Seen) (n : ℕ) (place : ℕ) (side : Owned) → CameWhole n start now → TakesOut place side now mid → GivesSide false side mid next → CameWhole n start next
 giving_gone start now mid next n place side came out gives low =
     let one = given false now mid next place side out gives in
     omega (arith, came low, one.fewer, one.longer)
 
-pub giving_fewer : (whole : Bool) (now mid next : Seen) (place : ℕ) (side : Owned) → TakesOut place side now mid → GivesSide whole side.id mid next → length next.leases < length now.leases
+pub giving_fewer : (whole : Bool) (now mid next : Seen) (place : ℕ) (side : Owned) → TakesOut place side now mid → GivesSide whole side mid next → length next.leases < length now.leases
 giving_fewer whole now mid next place side out gives =
     let one = given whole now mid next place side out gives in
     omega (arith, one.fewer)
@@ -206,6 +217,10 @@ balanced_told g0 g g' r0 r r' greatest greatest' n old new balanced is tracks sa
       known = record { leases = balanced.known.leases; gone = balanced.known.gone };
       told = omega arith;
     })
+
+-- one return was made for each side that is told now
+pub returned_told : (r r' : ℕ) (old swept new : Seen) → owed swept ≡ owed old → swept.told ≤ length swept.gone → new ≡ all_told swept → Tracks r r' (length swept.gone - swept.told) → ReturnsOwed r r' old new
+returned_told r r' old swept new same within is tracks low = rw is (omega (arith, tracks low, same, within))
 
 -- a new segment came
 pub balanced_grown : (g0 g g' r0 r r' greatest greatest' n n' : ℕ) (old new : Seen) (pages : ℕ) (part : Part) (side : Owned) → IsBalanced g0 g r0 r greatest n old → g' ≡ next_count g → n' ≡ min (n + 1) LAST_COUNT → r' ≡ r → greatest < side.id → greatest' ≡ side.id → Adopts side pages part old new → IsBalanced g0 g' r0 r' greatest' n' new

@@ -4,8 +4,8 @@ use Rattle.std.specs.List.{list_any}
 use Rattle.std.proofs.lemmas.List.Folds.{list_any-append}
 use Rattle.segment.specs.Owned.{Owned}
 use Rattle.client.specs.Lease.{Lease}
-use Rattle.client.specs.Seen.{is_lease, has_lease, numbers_of, known}
-use Rattle.client.specs.Gone.{is_side, has_side}
+use Rattle.client.specs.Seen.{has_lease, numbers_of, known}
+use Rattle.client.specs.Gone.{has_side}
 use Rattle.client.specs.Places.{IsThere}
 use Rattle.client.proofs.PlacesFound.{has_at}
 

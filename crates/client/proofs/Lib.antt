@@ -13,6 +13,8 @@ pub mod ComingAndKept
 pub mod Debts
 pub mod Writing
 pub mod GivingBack
+pub mod GivenUp
 pub mod FreeOnesLeft
+pub mod TakingBack
 pub mod Allocating
 pub mod Knowing

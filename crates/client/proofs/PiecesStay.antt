@@ -243,3 +243,18 @@ stay_told old new told is part owns =
       gone = λ was. was;
       bytes = λ _. refl;
     })
+
+-- each piece stays, however many sides are out
+pub stay_taken : (old new : Seen) (taken : ℕ) → new ≡ record old { taken = taken } → AllStay old new
+stay_taken old new taken is part owns =
+    rw is (record {
+      owned = record {
+        mine = owns.mine;
+        there = elim owns.there [
+          | inl live ↦ inl (record { used = live.used; stands = live.stands; pages = live.pages })
+          | inr dead ↦ inr (record { gone = dead.gone; free = dead.free })
+        ];
+      };
+      gone = λ was. was;
+      bytes = λ _. refl;
+    })

@@ -1,10 +1,14 @@
 -- A sweep, segment by segment.
-use Rattle.std.proofs.Common.{◌≡◌, ℕ, zero, suc, ◌+◌, ◌≤◌, Bool, true, false, not, List, [], ◌∷◌, ◌++◌, length, set, take, drop, Some, refl, sym, ap, subst, ◌∙◌, arith, append_assoc, length-append, append-nil}
-use Rattle.std.specs.List.{slice_get, remove}
+use Rattle.std.proofs.Common.{◌≡◌, ℕ, zero, suc, ◌+◌, ◌≤◌, Bool, true, false, not, List, [], ◌∷◌, ◌++◌, length, set, take, drop, Some, cond, refl, sym, ap, subst, ◌∙◌, arith, append_assoc, length-append, append-nil}
+use Rattle.std.specs.List.{slice_get, remove, filter, sum_by}
+use Rattle.std.specs.List.Sorted.{IsPermutation}
+use Rattle.std.proofs.lemmas.List.Sums.{sum_by-cons}
+use Rattle.std.proofs.lemmas.List.Sorted.{sum_by-IsPermutation}
 use Rattle.std.proofs.lemmas.List.{drop-set-lt, length-set}
 use Rattle.std.proofs.lemmas.Option.{none-some, same_Some, slice_get_within}
 use Rattle.segment.specs.Owned.{Owned}
 use Rattle.span_heap.specs.declared.run.Run.{Run}
+use Rattle.span_heap.specs.Run.{lies_in}
 use Rattle.span_heap.specs.Runs.{dropped}
 use Rattle.std.proofs.lemmas.List.Filters.{sum_by-filter_both}
 use Rattle.span_heap.specs.Segment.{Segment}
@@ -14,7 +18,7 @@ use Rattle.client.specs.Lease.{Lease}
 use Rattle.client.specs.Seen.{Seen}
 use Rattle.client.specs.Pieces.{AllStay}
 use Rattle.client.specs.Calls.{LooksInto, KeepsName}
-use Rattle.client.specs.Finding.{Sweeps, SweepsAll, dropped_all}
+use Rattle.client.specs.Finding.{Sweeps, SweepsAll, SameRuns, dropped_all}
 use Rattle.client.proofs.PieceCalls.{all_on}
 use Rattle.client.proofs.PiecesStay.{stays_as_it_is}
 
@@ -33,6 +37,7 @@ pub record Sweeping (start now : Seen) (place : ℕ) : Type 0 where
   pub counted : length lost + length now.leases ≡ length start.leases
   pub within : place ≤ length now.leases
   pub more : (kept : List Lease) (later : List Owned) → Sweeps (drop place now.leases) kept later → Sweeps start.leases (take place now.leases ++ kept) (lost ++ later)
+  pub used : SameRuns now.heap.used (dropped_all lost start.heap.used)
   pub free : now.heap.free ≡ dropped_all lost start.heap.free
   pub gone : now.gone ≡ start.gone ++ lost
   pub told : now.told ≡ start.told
@@ -47,6 +52,7 @@ sweeping_start seen = record {
   counted = omega arith;
   within = omega arith;
   more = λ kept later sweeps. sweeps;
+  used = λ weight. refl;
   free = refl;
   gone = sym (append-nil seen.gone);
   told = refl;
@@ -80,6 +86,25 @@ dropped_one_more : (lost : List Owned) (side : Owned) (runs : List Run) → drop
 dropped_one_more [] side runs = refl
 dropped_one_more (s ∷ lost) side runs = dropped_one_more lost side (dropped runs s.id)
 
+-- a sum with one element more, where it passes
+sum_one : {X : Type 0} (weight : X → ℕ) (x : X) (more : List X) (b : Bool) → sum_by weight (cond {A = List X} b (x ∷ more) more) ≡ cond {A = ℕ} b (weight x) 0 + sum_by weight more
+sum_one weight x more true = sum_by-cons weight x more
+sum_one weight x more false = omega arith
+
+-- a sum over what passes a test
+sum_passed : {X : Type 0} (weight : X → ℕ) (t : X → Bool) (xs : List X) → sum_by weight (filter t xs) ≡ sum_by (λ x. cond {A = ℕ} (t x) (weight x) 0) xs
+sum_passed weight t [] = refl
+sum_passed weight t (x ∷ xs) =
+    sum_one weight x (filter t xs) (t x)
+    ∙ (ap (λ n. cond {A = ℕ} (t x) (weight x) 0 + n) (sum_passed weight t xs) ∙ sym (sum_by-cons (λ y. cond {A = ℕ} (t y) (weight y) 0) x xs))
+
+-- the same used spans, where one segment more was dropped
+used_dropped : (lost : List Owned) (side : Owned) (now next start : List Run) → SameRuns now (dropped_all lost start) → IsPermutation (dropped now side.id) next → SameRuns next (dropped_all (lost ++ side ∷ []) start)
+used_dropped lost side now next start same left weight =
+    let t : Run → Bool = λ run. not (lies_in side.id run) in
+    sum_by-IsPermutation weight (dropped now side.id) next left
+    ∙ (sum_passed weight t now ∙ (same (λ run. cond {A = ℕ} (t run) (weight run) 0) ∙ (sym (sum_passed weight t (dropped_all lost start)) ∙ ap (sum_by weight) (sym (dropped_one_more lost side start)))))
+
 drop_past : {X : Type 0} (xs : List X) (p : ℕ) → length xs ≤ p → drop p xs ≡ []
 drop_past [] zero past = refl
 drop_past [] (suc p) past = refl
@@ -109,6 +134,7 @@ sweeping_there start now next p sweeping looks stay =
           let sweeps' : Sweeps (drop (suc p) now.leases) kept later = subst (λ (ls : List Lease). Sweeps ls kept later) rest sweeps in
           let whole : Sweeps (drop p now.leases) (looks.looked ∷ kept) later = subst (λ (ls : List Lease). Sweeps ls (looks.looked ∷ kept) later) (sym at) (true, looks.looked, looks.looks, (kept, refl, sweeps')) in
           subst (λ (ls : List Lease). Sweeps start.leases ls (sweeping.lost ++ later)) (sym (append_assoc (take p now.leases) (looks.looked ∷ []) kept) ∙ ap (λ ls. ls ++ kept) (sym front)) (sweeping.more (looks.looked ∷ kept) later whole));
+      used = λ weight. ap (λ (h : Contents). sum_by weight h.used) turns.heap ∙ sweeping.used weight;
       free = ap (λ (h : Contents). h.free) turns.heap ∙ sweeping.free;
       gone = turns.gone.gone ∙ sweeping.gone;
       told = turns.gone.told ∙ sweeping.told;
@@ -136,6 +162,7 @@ sweeping_gone start now next p sweeping looks stay =
           let whole : Sweeps (drop p now.leases) kept (side ∷ later) = subst (λ (ls : List Lease). Sweeps ls kept (side ∷ later)) (sym at) (false, looks.looked, looks.looks, (later, refl, sweeps')) in
           subst (λ (ls : List Lease). Sweeps start.leases (ls ++ kept) ((sweeping.lost ++ side ∷ []) ++ later)) (sym front)
           (subst (λ (sides : List Owned). Sweeps start.leases (take p now.leases ++ kept) sides) (sym (append_assoc sweeping.lost (side ∷ []) later)) (sweeping.more kept (side ∷ later) whole));
+      used = λ weight. used_dropped sweeping.lost side now.heap.used next.heap.used start.heap.used sweeping.used loses.leaves.heap.used weight;
       free = loses.leaves.heap.free ∙ (ap (λ runs. dropped runs side.id) sweeping.free ∙ sym (dropped_one_more sweeping.lost side start.heap.free));
       gone = loses.gone ∙ (ap (λ sides. sides ++ side ∷ []) sweeping.gone ∙ append_assoc start.gone sweeping.lost (side ∷ []));
       told = loses.told ∙ sweeping.told;
@@ -155,6 +182,7 @@ sweeping_end start now p n sweeping past counted = (
         subst (λ (ls : List Lease). Sweeps start.leases ls sweeping.lost) (append-nil (take p now.leases) ∙ take_past now.leases p past)
         (subst (λ (sides : List Owned). Sweeps start.leases (take p now.leases ++ []) sides) (append-nil sweeping.lost)
         (sweeping.more [] [] (subst (λ (ls : List Lease). Sweeps ls [] []) (sym (drop_past now.leases p past)) (refl, refl))));
+    used = sweeping.used;
     free = sweeping.free;
     gone = sweeping.gone;
     told = sweeping.told;

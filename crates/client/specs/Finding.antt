@@ -1,5 +1,5 @@
 -- A search for pages, the coming of a segment, and a look at all segments.
-use Rattle.std.specs.Prelude.{◌≡◌, ℕ, ◌-◌, ◌≤◌, nat_lt, Bool, true, List, [], ◌∷◌, ◌++◌, Option, Some, None, MatchBool, MatchOption, length}
+use Rattle.std.specs.Prelude.{◌≡◌, ℕ, ◌-◌, ◌≤◌, nat_lt, Bool, true, List, [], ◌∷◌, ◌++◌, Option, Some, None, MatchBool, MatchOption, length, sum_by}
 use Rattle.segment.specs.Owned.{Owned}
 use Rattle.segment.specs.declared.owner.Lock.TheVariants.{Held, Gone}
 use Rattle.page_locks.specs.Locks.{page_count, is_page_locked}
@@ -61,7 +61,7 @@ pub record Adopts (side : Owned) (pages : ℕ) (part : Part) (old new : Seen) : 
   pub name : KeepsName old new
   pub gone : new.gone ≡ old.gone
   pub told : new.told ≡ old.told
-  pub taken : new.taken ≡ 0
+  pub taken : new.taken ≡ old.taken
 
 -- Each of these segments was looked at, in order. One that was found gone left with its side, and the others stayed.
 abbrev pub Sweeps : List Lease → List Lease → List Owned → Type 0
@@ -72,14 +72,19 @@ Sweeps (lease ∷ leases) kept lost =
     ((later : List Lease) × (kept ≡ looked ∷ later) × Sweeps leases later lost)
     ((later : List Owned) × (lost ≡ looked.side ∷ later) × Sweeps leases kept later)
 
--- the free runs after the segments of these sides were dropped
+-- the runs after the segments of these sides were dropped
 abbrev pub dropped_all : List Owned → List Run → List Run
 dropped_all [] runs = runs
 dropped_all (side ∷ sides) runs = dropped_all sides (dropped runs side.id)
 
--- Each segment was looked at, and those of these sides were found gone and left; no page came
+-- the same runs, each as often, in some order: whatever is summed over both comes to the same
+abbrev pub SameRuns : List Run → List Run → Type 0
+SameRuns runs others = (weight : Run → ℕ) → sum_by weight runs ≡ sum_by weight others
+
+-- Each segment was looked at, and those of these sides were found gone and left with their used spans and free runs; no page came.
 pub record SweepsAll (lost : List Owned) (old new : Seen) : Type 0 where
   pub leases : Sweeps old.leases new.leases lost
+  pub used : SameRuns new.heap.used (dropped_all lost old.heap.used)
   pub free : new.heap.free ≡ dropped_all lost old.heap.free
   pub gone : new.gone ≡ old.gone ++ lost
   pub told : new.told ≡ old.told

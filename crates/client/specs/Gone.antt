@@ -1,5 +1,5 @@
 -- The sides of a client that were found gone.
-use Rattle.std.specs.Prelude.{◌≡◌, ℕ, ◌+◌, ◌==◌, ◌≤◌, nat_lt, sum_by, Bool, List, ◌∷◌, ◌++◌, take, drop, length, All, Option, option_map, slice_get, if◌then◌else◌}
+use Rattle.std.specs.Prelude.{◌≡◌, ℕ, ◌+◌, ◌==◌, ◌≤◌, nat_lt, sum_by, count_by, Bool, List, ◌∷◌, ◌++◌, take, drop, length, All, Option, option_map, slice_get, if◌then◌else◌}
 use Rattle.std.specs.List.{list_any}
 use Rattle.segment.specs.Owned.{Owned}
 use Rattle.segment.specs.declared.owner.Phase.TheVariants.{Gone}
@@ -33,6 +33,14 @@ after_next sides told = if nat_lt told (length sides) then told + 1 else told
 -- the sides with one more, which is told, where so many were told
 abbrev pub kept_side : Owned → ℕ → List Owned → List Owned
 kept_side side told sides = take told sides ++ side ∷ drop told sides
+
+-- the sides with these more, which are told, where so many were told
+abbrev pub kept_sides : List Owned → ℕ → List Owned → List Owned
+kept_sides more told sides = take told sides ++ more ++ drop told sides
+
+-- no two of the sides have one number
+abbrev pub AreOnce : List Owned → Type 0
+AreOnce sides = (id : ℕ) → count_by (is_side id) sides ≤ 1
 
 -- each of these sides is among the others, as often: whatever is summed over both, the others have no less
 abbrev pub Includes : List Owned → List Owned → Type 0

@@ -8,6 +8,7 @@ use Rattle.client.specs.declared.granted.ClientFault.{ClientFault}
 use Rattle.client.specs.declared.granted.ClientFault.TheVariants as fault
 use Rattle.client.specs.Sizes.{wanted, pages_for}
 use Rattle.client.specs.Gone.{kept_side, Includes}
+use Rattle.client.specs.GivingUp.{GaveBlock, GoesGone}
 use Rattle.client.specs.Lease.{Lease}
 use Rattle.client.specs.Seen.{Seen, IsUnknown}
 use Rattle.client.specs.Pieces.{Part}
@@ -103,15 +104,24 @@ AllocatesCounted pages part old new =
     ((lost : List ℕ) × Finds pages lost (Some part) old.client new.client × (new.grants ≡ old.grants))
     ⊎ (Grows pages part old.client new.client × (new.grants ≡ next_count old.grants))
 
--- a side that was given up came back whole, or it is gone and kept
-abbrev pub GivesSide : Bool → ℕ → Seen → Seen → Type 0
-GivesSide whole id old new =
-    MatchBool whole (new ≡ old)
-    ((side : Owned) × (side.id ≡ id) × (new ≡ record old { gone = kept_side side old.told old.gone; told = old.told + 1; taken = old.taken - 1 }))
+-- a side that was taken out was given up, and is out no more: it gave its block, or it is gone and kept, as told
+abbrev pub GivesSide : Bool → Owned → Seen → Seen → Type 0
+GivesSide whole side old new =
+    MatchBool whole (GaveBlock side × (new ≡ record old { taken = old.taken - 1 }))
+    ((gone : Owned) × GoesGone side gone × (new ≡ record old { gone = kept_side gone old.told old.gone; told = old.told + 1; taken = old.taken - 1 }))
 
 -- a count tracks another: where it does not stand at its last value it rose by so many
 abbrev pub Tracks : ℕ → ℕ → ℕ → Type 0
 Tracks then now n = now < LAST_COUNT → now ≡ then + n
+
+-- the granter granted no segment
+pub record GrantsNone (grants_then grants_now greatest_then greatest_now : ℕ) : Type 0 where
+  pub grants : grants_now ≡ grants_then
+  pub greatest : greatest_now ≡ greatest_then
+
+-- one return was made for each segment that was owed and is no more
+abbrev pub ReturnsOwed : ℕ → ℕ → Seen → Seen → Type 0
+ReturnsOwed returns_then returns_now old new = returns_now < LAST_COUNT → returns_now + owed new ≡ returns_then + owed old
 
 -- Segments were given back, one return for each that is owed no more. No number came, and each gone side stays among the gone.
 pub record Returns (returns_then returns_now : ℕ) (old new : Seen) : Type 0 where

@@ -8,6 +8,8 @@ pub mod Lending
 pub mod Coming
 pub mod Finding
 pub mod Sound
+pub mod GivingUp
 pub mod Sizes
 pub mod Granting
+pub mod TakenBack
 pub mod GrantedLending

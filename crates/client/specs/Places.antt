@@ -1,5 +1,5 @@
 -- Where a segment stands among those of a client.
-use Rattle.std.specs.Prelude.{◌≡◌, ◌<◌, ℕ, Bool, false, List, length, Option, Some, MatchOption, slice_get, filter}
+use Rattle.std.specs.Prelude.{◌≡◌, ◌<◌, ℕ, Bool, false, not, List, length, map, Option, Some, MatchOption, slice_get, filter}
 use Rattle.std.specs.List.{list_any}
 use Rattle.std.specs.List.Sorted.{IsPermutation}
 use Rattle.segment.specs.Owned.{Owned}
@@ -7,7 +7,7 @@ use Rattle.span_heap.specs.declared.run.Run.{Run}
 use Rattle.span_heap.specs.Run.{lies_in}
 use Rattle.span_heap.specs.Changes.{NoneIn}
 use Rattle.client.specs.Lease.{Lease}
-use Rattle.client.specs.Seen.{Seen, has_lease}
+use Rattle.client.specs.Seen.{Seen, has_lease, segment_of}
 
 -- a segment of this number stands among those of the client
 pub record StandsAt (leases : List Lease) (id : ℕ) : Type 0 where
@@ -47,7 +47,20 @@ NoneAllFree seen = AreUsedBefore (length seen.leases) seen
 abbrev pub has_used : List Run → Lease → Bool
 has_used used lease = list_any (lies_in lease.side.id) used
 
--- Each segment that was all free left, and no other: those with a used span are left, in their order, with all used spans.
+-- the segment has none of these used spans
+abbrev pub is_all_free : List Run → Lease → Bool
+is_all_free used lease = not (has_used used lease)
+
+-- the segment of the free run has one of these used spans
+abbrev pub is_with_used : List Run → Run → Bool
+is_with_used used run = list_any (lies_in run.segment) used
+
+-- Each segment that was all free left, and no other: those with a used span are left, in their order, with all used spans, and with
+-- their free runs, in their order. The client is the one that it was.
 pub record LeavesUsed (old new : Seen) : Type 0 where
   pub leases : new.leases ≡ filter (has_used old.heap.used) old.leases
   pub used : IsPermutation old.heap.used new.heap.used
+  pub free : new.heap.free ≡ filter (is_with_used old.heap.used) old.heap.free
+  pub segments : new.heap.segments ≡ map segment_of new.leases
+  pub number : new.number ≡ old.number
+  pub standard : new.standard ≡ old.standard

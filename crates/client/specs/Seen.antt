@@ -9,7 +9,7 @@ use Rattle.client.specs.Lease.{Lease}
 
 -- Its number and its standard size in pages; its segments, in the order in which they came; its heap, with the used spans and
 -- the free runs of these; the sides of its segments that were found gone, and how many of these, from the first on, are told; and
--- how many sides were taken out since the last segment came, and not kept again.
+-- how many sides were taken out, and neither kept again nor known to have given their blocks.
 pub record Seen : Type 0 where
   pub number : ℕ
   pub standard : ℕ

@@ -8,7 +8,7 @@ ghost use Rattle.segment.specs.declared.owner.Phase.TheVariants as phase;
 ghost use Rattle.segment.specs.declared.owner.Lock.TheVariants as lock;
 ghost use Rattle.span_heap.specs.Heap.{size_of};
 ghost use Rattle.client.specs.Seen.{Seen, new_client, next_untold, IsUnknown, is_known};
-ghost use Rattle.client.specs.Gone.{AreGone, kept_side, after_next};
+ghost use Rattle.client.specs.Gone.{AreGone, AreOnce, kept_side, after_next};
 ghost use Rattle.client.specs.Pieces.{Part, Owns, AllStay, OthersStay, IsNew, AreApart, bytes_of, IsLive, IsDead, LocksPiece, UnlocksPiece, IsUsed, StayElsewhere, part_after_lock, WritesOnly};
 ghost use Rattle.client.specs.Calls.{LocksPart, Unlocks, UnlocksRun, AfterFree, TakesFirstFree, TakesLast};
 ghost use Rattle.client.specs.Sound.{IsSoundSeen};
@@ -48,7 +48,7 @@ pub struct Client {
     /// How many pages the segments have.
     pub(crate) pages: u32,
     pub(crate) gone: GoneSides,
-    /// How many sides were taken out since the last segment came, and not kept again.
+    /// How many sides were taken out, and neither kept again nor known to have given their blocks.
     pub(crate) taken: usize,
 }
 
@@ -204,7 +204,6 @@ impl Client {
         requires held { side.phase ≡ phase.Held }
         requires unknown { IsUnknown side.id self.old }
         requires pages { (1 ≤ pages) × (pages ≤ side.pages) }
-        requires most { side.pages ≤ MOST_PAGES }
         requires small { size_of self.old.heap.segments + side.pages < 2 ^ 32 }
         requires moment { IsMoment _now }
         ensures adopts { IfOk result (λ piece. Adopts side pages piece self.old self.new) }
@@ -217,14 +216,13 @@ impl Client {
         let Ok(locks) = front_locks(alloc, whole, pages) else {
             return Err(Unadopted { side });
         };
-        let Ok(()) = make_room(&mut self.leases, &mut self.gone) else {
+        let Ok(()) = make_room(&mut self.leases, &mut self.gone, self.taken) else {
             return Err(Unadopted { side });
         };
         let Ok(span) = self.heap.grow_front(alloc, side.id(), whole, pages) else {
             return Err(Unadopted { side });
         };
         self.pages += whole;
-        self.taken = 0;
         self.leases.push_reserved(LeasedSegment::new(side, locks));
         Ok(Piece::locked_piece(self.number, span))
     }
@@ -386,10 +384,11 @@ impl Client {
         Some(self.take_out(count - 1))
     }
 
-    /// Keeps a side that was taken out and is gone. It counts as told.
+    /// Keeps a side that came from this client and is gone. It counts as told. Its room was taken when its
+    /// segment came.
     ///
-    /// Conditions: the side is gone; so many sides were taken out since the last segment came, and not kept
-    /// again; and no other segment of its number is known.
+    /// Conditions: the side is gone; some side was taken out and not kept again, whatever came since; and
+    /// no other segment of its number is known.
     pub fn keep_gone(&mut self, side: OwnerSide)
         requires gone { side.phase ≡ phase.Gone }
         requires taken { 1 ≤ self.old.taken }
@@ -405,10 +404,20 @@ impl Client {
         self.gone.keep(side);
     }
 
+    /// Notes that a side that was taken out gave its block, so that no room is kept for it any more.
+    pub(crate) fn note_whole(&mut self)
+        requires taken { 1 ≤ self.old.taken }
+        ensures noted { self.new ≡ record self.old { taken = self.old.taken - 1 } }
+        ensures stay { AllStay self.old self.new }
+    {
+        self.taken -= 1;
+    }
+
     /// The sides that were found gone.
     pub(crate) fn into_gone(self) -> Vec<OwnerSide>
         ensures sides { result.items ≡ self.gone }
         ensures gone { AreGone result.items }
+        ensures once { AreOnce result.items }
     {
         let Client { gone, .. } = self;
         gone.into_sides()

@@ -1,5 +1,5 @@
 //! The coming of a segment: its front is a locked piece, and the rest is free.
-ghost use Rattle.std.specs.Prelude.{◌≡◌, ◌+◌, ◌^◌, ◌<◌, ◌≤◌, IfOk, OnOk, vec_len, vec_capacity};
+ghost use Rattle.std.specs.Prelude.{◌≡◌, ◌+◌, ◌^◌, ◌<◌, ◌≤◌, max, IfOk, OnOk, vec_len, vec_capacity};
 ghost use Rattle.client.specs.Coming.{IsFrontLocked};
 
 use crate::gone::GoneSides;
@@ -20,13 +20,15 @@ pub(crate) fn front_locks(alloc: Global, whole: u32, pages: u32) -> Result<PageL
     Ok(locks)
 }
 
-/// Makes room for one segment more, and for its side if it is found gone later.
+/// Makes room for one segment more, and for the sides of all that may be found gone later, and of the
+/// `taken` ones that may be kept again.
 pub(crate) fn make_room(
     leases: &mut Vec<LeasedSegment>,
     gone: &mut GoneSides,
+    taken: usize,
 ) -> Result<(), NoMemory>
     ensures places { OnOk result (vec_len leases.new < vec_capacity leases.new) }
-    ensures room { OnOk result (vec_len leases.new + 1 ≤ gone.new.room) }
+    ensures room { OnOk result (gone.new.room ≡ max gone.old.room (vec_len leases.new + 1 + taken)) }
     ensures more { gone.old.room ≤ gone.new.room }
     ensures full { gone.old.room < 2 ^ 64 → gone.new.room < 2 ^ 64 }
     ensures leases { leases.new.items ≡ leases.old.items }
@@ -34,5 +36,7 @@ pub(crate) fn make_room(
     ensures told { gone.new.told ≡ gone.old.told }
 {
     leases.reserve(1)?;
-    gone.reserve(leases.len() + 1)
+    // More sides than a usize counts have no room.
+    let sides = (leases.len() + 1).checked_add(taken).ok_or(NoMemory)?;
+    gone.reserve(sides)
 }

@@ -1,5 +1,5 @@
 //! The sides of a client that were found gone.
-ghost use Rattle.std.specs.Prelude.{◌≡◌, ◌+◌, ◌^◌, ◌<◌, ◌≤◌, ◌<◌, ◌++◌, ◌∷◌, [], take, drop, length, OnOk, OnErr, option_map, slice_get, IsSome};
+ghost use Rattle.std.specs.Prelude.{◌≡◌, ◌+◌, ◌^◌, ◌<◌, ◌≤◌, max, ◌++◌, ◌∷◌, [], take, drop, length, OnOk, OnErr, option_map, slice_get, IsSome};
 ghost use Rattle.segment.specs.declared.owner.Phase.TheVariants.{Gone};
 ghost use Rattle.client.specs.Gone.{GoneOnes, next_of, after_next, kept_side, has_side, AreGone};
 
@@ -42,8 +42,9 @@ impl GoneSides {
 
     /// Makes room for `n` sides. `NoMemory` leaves all as before.
     pub(crate) fn reserve(&mut self, n: usize) -> Result<(), NoMemory>
-        ensures ok { OnOk result (n ≤ self.new.room) }
+        ensures ok { OnOk result (self.new.room ≡ max self.old.room n) }
         ensures most { self.new.room < 2 ^ 64 }
+        ensures err { OnErr result (self.new.room ≡ self.old.room) }
         ensures more { self.old.room ≤ self.new.room }
         ensures same { (self.new.sides ≡ self.old.sides) × (self.new.told ≡ self.old.told) }
     {

@@ -1,17 +1,19 @@
-ghost use Rattle.std.specs.Prelude.{◌≡◌, ◌↔◌, ◌+◌, ◌-◌, ◌*◌, ◌^◌, ◌<◌, ◌≤◌, ℕ, [], List, Some, true, false, IsTrue, IfOk, IfErr, OnOk, OnErr, length};
+ghost use Rattle.std.specs.Prelude.{◌≡◌, ◌↔◌, ◌+◌, ◌-◌, ◌*◌, ◌^◌, ◌<◌, ◌≤◌, ℕ, [], List, Some, true, false, IsTrue, IfOk, IfErr, OnOk, OnErr, filter, drop, reverse, length};
 ghost use Rattle.units.specs.Moment.{IsMoment};
 ghost use Rattle.units.specs.declared.TheConstants.{MOST_PAGES, PAGE};
 ghost use Rattle.segment.specs.Owned.{Owned};
 ghost use Rattle.span_heap.specs.Heap.{size_of};
 ghost use Rattle.client.specs.Sizes.{wanted};
 ghost use Rattle.client.specs.Pieces.{Owns, AllStay, OthersStay, IsNew, LocksPiece, UnlocksPiece, bytes_of, part_after_lock, WritesOnly};
-ghost use Rattle.client.specs.Places.{NoneAllFree, LeavesUsed};
+ghost use Rattle.client.specs.Places.{NoneAllFree, LeavesUsed, is_all_free};
+ghost use Rattle.client.specs.GivingUp.{FindsGone, KeepsUntold};
+ghost use Rattle.client.specs.TakenBack.{Return, TookAll, AreReturned, gone_returns, untold_returns, CameFrom, CameToNothing, AskedFor};
 ghost use Rattle.std.specs.Borrow.{sem};
 ghost use Rattle.units.specs.Count.{next_count};
 ghost use Rattle.client.specs.Calls.{LocksPart, UnlocksRun, AfterFree};
 ghost use Rattle.client.specs.Gone.{AreGone, Includes};
 ghost use Rattle.client.specs.declared.granted.ClientFault.TheVariants as fault;
-ghost use Rattle.client.specs.Granting.{Allocates, granted_pages, GrowsBy, Releases, IsSettled, RoseBy, LAST_COUNT, IsTooLarge, CameWhole, IsBalanced, AllocatesCounted, IsOutOfMemory};
+ghost use Rattle.client.specs.Granting.{Allocates, granted_pages, GrowsBy, Releases, IsSettled, RoseBy, LAST_COUNT, IsTooLarge, CameWhole, IsBalanced, AllocatesCounted, IsOutOfMemory, GrantsNone, ReturnsOwed};
 
 use crate::answers::{Unadopted, Unlocked};
 use crate::client::Client;
@@ -203,6 +205,8 @@ impl<G: Granter + Drop> Granted<G> {
             ≤ size_of self.old.client.heap.segments + granted_pages self.old.client pages)) }
         ensures grants { IfOk result (λ piece. (pages : ℕ) × (wanted bytes ≡ Some pages)
             × AllocatesCounted pages piece self.old self.new) }
+        ensures asked { IfOk result (λ piece. (pages : ℕ) × (wanted bytes ≡ Some pages)
+            × AskedFor G.granted_to G.took_back pages piece self.old self.new) }
         ensures out { IsOutOfMemory bytes result self.old self.new }
         ensures no_more { OnErr result (size_of self.new.client.heap.segments
             ≤ size_of self.old.client.heap.segments) }
@@ -235,6 +239,10 @@ impl<G: Granter + Drop> Granted<G> {
         requires moment { IsMoment now }
         ensures ok { IfOk result (λ piece. GrowsBy pages piece self.old.client self.new.client) }
         ensures counted { OnOk result (self.new.grants ≡ next_count self.old.grants) }
+        ensures granted { IfOk result (λ piece. CameFrom G.granted_to self.old.client.number pages
+            piece self.old.client self.new.client self.old.granter self.new.granter) }
+        ensures nothing { OnErr result (CameToNothing G.granted_to G.took_back G.grants G.returns
+            self.old.client.number self.old.granter self.new.granter) }
         ensures piece { IfOk result (λ piece. IsNew pages self.old.client self.new.client piece) }
         ensures same { OnErr result (self.new.client ≡ self.old.client) }
         ensures stay { AllStay self.old.client self.new.client }
@@ -259,10 +267,18 @@ impl<G: Granter + Drop> Granted<G> {
     pub fn release_purged<H: Threads + Wait + Sync>(&mut self, rt: &H) -> u64
         ensures releases { (lost : List Owned) × (result ≡ length lost)
             × Releases lost self.old.client self.new.client }
+        ensures took { TookAll G.took_back self.old.client.number
+            (gone_returns (drop self.old.client.told self.new.client.gone))
+            self.old.granter self.new.granter }
         ensures gone { Includes self.old.client.gone self.new.client.gone }
         ensures stay { AllStay self.old.client self.new.client }
         ensures start { self.new.start ≡ self.old.start }
         ensures grants { self.new.grants ≡ self.old.grants }
+        ensures granted { GrantsNone (G.grants self.old.granter) (G.grants self.new.granter)
+            (G.greatest self.old.granter) (G.greatest self.new.granter) }
+        ensures standing { G.standing self.new.granter ≡ G.standing self.old.granter }
+        ensures returned { ReturnsOwed (G.returns self.old.granter) (G.returns self.new.granter)
+            self.old.client self.new.client }
     {
         let lost = self.client.sweep();
         tell_all(&mut self.client, &mut self.granter, rt);
@@ -270,23 +286,41 @@ impl<G: Granter + Drop> Granted<G> {
     }
 
     /// Gives back each segment that is all free, and no other, and answers how many were whole: the
-    /// others were purged.
+    /// others were purged, and their sides are kept among the gone ones. All else stays: the other
+    /// segments, their used spans and their free runs in their order.
     pub fn release_free<H: Threads + Wait + Sync>(&mut self, rt: &H) -> u64
         ensures whole { CameWhole result self.old.client self.new.client }
+        ensures took { (returns : List Return)
+            × AreReturned self.new.client.gone
+            (filter (is_all_free self.old.client.heap.used) self.old.client.leases) returns
+            × TookAll G.took_back self.old.client.number returns
+            self.old.granter self.new.granter }
         ensures left { LeavesUsed self.old.client self.new.client }
         ensures none { NoneAllFree self.new.client }
         ensures gone { Includes self.old.client.gone self.new.client.gone }
+        ensures found { FindsGone
+            (filter (is_all_free self.old.client.heap.used) self.old.client.leases)
+            self.old.client self.new.client.gone }
+        ensures told { KeepsUntold self.old.client self.new.client }
         ensures stay { AllStay self.old.client self.new.client }
         ensures start { self.new.start ≡ self.old.start }
         ensures grants { self.new.grants ≡ self.old.grants }
+        ensures granted { GrantsNone (G.grants self.old.granter) (G.grants self.new.granter)
+            (G.greatest self.old.granter) (G.greatest self.new.granter) }
+        ensures standing { G.standing self.new.granter ≡ G.standing self.old.granter }
+        ensures returned { ReturnsOwed (G.returns self.old.granter) (G.returns self.new.granter)
+            self.old.client self.new.client }
     {
         give_back_free(&mut self.client, &mut self.granter, rt)
     }
 
     /// Ends the client: every segment is given back. The end tells how many were granted, and has each side
-    /// that was found gone.
+    /// that was found gone, before or now, each once, and no other.
     pub fn close<H: Threads + Wait + Sync>(self, rt: &H) -> ClientEnd
-        ensures { result.grants ≡ self.grants }
+        ensures end { result.grants ≡ self.grants }
+        ensures gone { AreGone result.gone }
+        ensures found { FindsGone self.client.leases self.client result.gone }
+        ensures kept { Includes self.client.gone result.gone }
     {
         let (end, _granter) = self.close_with(rt);
         end
@@ -298,12 +332,19 @@ impl<G: Granter + Drop> Granted<G> {
     /// Its standing is the one that it had.
     pub fn close_with<H: Threads + Wait + Sync>(self, rt: &H) -> (ClientEnd, G)
         ensures end { result.0.grants ≡ self.grants }
+        ensures took { (returns : List Return) × (between : G)
+            × AreReturned result.0.gone (reverse self.client.leases) returns
+            × TookAll G.took_back self.client.number returns self.granter between
+            × TookAll G.took_back self.client.number (untold_returns self.client)
+            between result.1 }
         ensures settled { IsSettled (G.grants self.start) (G.grants result.1) (G.returns self.start)
             (G.returns result.1) result.0.grants }
         ensures exact { RoseBy (G.grants self.start) (G.grants result.1) result.0.grants }
         ensures within { result.0.grants ≤ LAST_COUNT }
+        ensures greatest { G.greatest result.1 ≡ G.greatest self.granter }
         ensures standing { G.standing result.1 ≡ G.standing self.start }
         ensures gone { AreGone result.0.gone }
+        ensures found { FindsGone self.client.leases self.client result.0.gone }
         ensures kept { Includes self.client.gone result.0.gone }
     {
         let Granted {

@@ -73,7 +73,7 @@ overflow_sub-self c =
     let found = found_gone run.first run.pages lease turned locks in
     let side_is : c.leave-side.result ≡ turned.side = c.leave-side.ensures.side turned (set_here items place lease turned at.0) in
     let fit = pages_fit _ c.self.inside.pages c.self.inside.gone.room place lease c.self.invariant at.0 in
-    rw (c.pages-in-Gone.ensures, side_is, found.side.pages) fit
+    rw (c.pages-in-Gone.ensures.value, side_is, found.side.pages) fit
 
 pub push-requires-clause-gone : goal.push-requires-clause-gone
 push-requires-clause-gone c =
@@ -130,7 +130,7 @@ invariant_of-self-in-Gone c =
     let found = found_gone run.first run.pages lease turned locks in
     let side_is : c.leave-side.result ≡ turned.side = c.leave-side.ensures.side turned (set_here items place lease turned at.0) in
     let leases_is = c.leave-side.ensures.leases ∙ remove-set items place turned in
-    rw (c.pages-in-Gone.ensures)
+    rw (c.pages-in-Gone.ensures.value)
     (kept_lost _ c.leave-side.new.leases.items c.leave-side.new.heap c.push.new.self.sides c.push.new.self.told c.self.inside.pages c.self.inside.gone.room c.push.new.self.room place lease c.leave-side.result c.self.invariant at.0
     (ap (λ (s : Owned). s.id) side_is ∙ found.side.same) (ap (λ (s : Owned). s.pages) side_is ∙ found.side.pages) leases_is c.leave-side.ensures.heap c.leave-side.ensures.partition c.push.ensures.sides c.push.ensures.told c.push.ensures.room)
 

@@ -62,7 +62,7 @@ overflow_sub-self c =
     let so = looked_so false lease turned looks in
     let side_is : c.leave-side.result ≡ turned.side = c.leave-side.ensures.side turned (set_here items place lease turned at) in
     let fit = pages_fit _ c.self.inside.pages c.self.inside.gone.room place lease c.self.invariant at in
-    rw (c.pages.ensures, side_is, so.keeps.pages) fit
+    rw (c.pages.ensures.value, side_is, so.keeps.pages) fit
 
 pub push-requires-clause-gone : goal.push-requires-clause-gone
 push-requires-clause-gone c =
@@ -98,7 +98,7 @@ invariant_of-self c =
     let looks : LooksAt false lease turned = subst (λ b. LooksAt b lease turned) c.if-not-there.true c.look-there.ensures.looks in
     let so = looked_so false lease turned looks in
     let side_is : c.leave-side.result ≡ turned.side = c.leave-side.ensures.side turned (set_here items place lease turned at) in
-    rw (c.pages.ensures)
+    rw (c.pages.ensures.value)
     (kept_lost _ c.leave-side.new.leases.items c.leave-side.new.heap c.push.new.self.sides c.push.new.self.told c.self.inside.pages c.self.inside.gone.room c.push.new.self.room place lease c.leave-side.result c.self.invariant at
     (ap (λ (s : Owned). s.id) side_is ∙ so.keeps.same) (ap (λ (s : Owned). s.pages) side_is ∙ so.keeps.pages) (c.leave-side.ensures.leases ∙ remove-set items place turned) c.leave-side.ensures.heap c.leave-side.ensures.partition c.push.ensures.sides c.push.ensures.told c.push.ensures.room)
 

@@ -32,7 +32,7 @@ overflow_sub-self c =
     let at = found.1 in
     let side_is : c.leave-side.result ≡ lease.side = c.leave-side.ensures.side lease at in
     let fit = pages_fit _ c.self.inside.pages c.self.inside.gone.room place lease c.self.invariant at in
-    rw (c.pages.ensures, side_is) fit
+    rw (c.pages.ensures.value, side_is) fit
 
 pub overflow_add-self : goal.overflow_add-self
 overflow_add-self c =
@@ -48,7 +48,7 @@ invariant_of-self c =
     let lease = found.0 in
     let at = found.1 in
     let side_is : c.leave-side.result ≡ lease.side = c.leave-side.ensures.side lease at in
-    rw (c.pages.ensures) (kept_taken _ c.leave-side.new.leases.items c.leave-side.new.heap c.self.inside.pages c.self.inside.gone.room place lease c.leave-side.result c.self.invariant at side_is c.leave-side.ensures.leases c.leave-side.ensures.heap c.leave-side.ensures.partition)
+    rw (c.pages.ensures.value) (kept_taken _ c.leave-side.new.leases.items c.leave-side.new.heap c.self.inside.pages c.self.inside.gone.room place lease c.leave-side.result c.self.invariant at side_is c.leave-side.ensures.leases c.leave-side.ensures.heap c.leave-side.ensures.partition)
 
 pub returns-clause-out : goal.returns-clause-out
 returns-clause-out c =

@@ -10,6 +10,7 @@ use Rattle.units.specs.declared.TheConstants.{MOST_PAGES}
 use Rattle.span_heap.specs.Heap.{size_of}
 use Rattle.client.proofs.PieceCalls.{new_since}
 use Rattle.client.proofs.Allocating.{size_found, allocated, includes_on, on_error, out_of_memory}
+use Rattle.client.proofs.TakingBack.{told_found, asked}
 use Rattle.client.proofs.granted.Granted.allocate.Goals as goal
 
 pub invariant_of-self : goal.invariant_of-self
@@ -135,3 +136,19 @@ returns-in_err-grow-clause-no_more g c =
     let releases = c.release_purged.ensures.releases.2 in
     let told : size_of c.release_purged.new.self.client.heap.segments ≡ size_of releases.swept.heap.segments = ap (λ (s : Seen). size_of s.heap.segments) releases.told in
     rw (← c.self.view_is, c.in_err-grow.ensures.same) (on_error _ (size_of c.release_purged.new.self.client.heap.segments ≤ size_of c.self.inside.client.heap.segments) (omega (arith, found, told, releases.sweeps.size)))
+
+pub returns-in-Some-find-clause-asked : goal.returns-in-Some-find-clause-asked
+returns-in-Some-find-clause-asked g c = rw (← c.self.view_is) (c.in-Some.pages, sym c.in-Some.ensures, inl refl)
+
+pub returns-clause-asked : goal.returns-clause-asked
+returns-clause-asked g c =
+    let told = told_found c.in-Some.pages c.in_default-find.ensures.finds.0 _ _ c.find.new.self c.in_default-find.ensures.finds.1 in
+    let releases = c.release_purged.ensures.releases.2 in
+    let same = ap (λ (s : Seen). s.number) releases.told ∙ releases.sweeps.name.number in
+    let both = asked g.G.Granter.granted_to g.G.Granter.took_back c.in-Some.pages c.in_ok-grow.field-0 c.self.inside.client c.grow.new.self.client c.find.new.self c.release_purged.new.self.client _ c.release_purged.new.self.granter c.grow.new.self.granter
+    told same c.release_purged.ensures.took c.in_ok-grow.ensures.granted in
+    rw (← c.self.view_is) (
+      c.in-Some.pages,
+      sym c.in-Some.ensures,
+      inr (c.release_purged.new.self.client, c.release_purged.new.self.granter, both.0, both.1),
+    )

@@ -1,6 +1,9 @@
 use Rattle.std.proofs.Common.{arith, ap, ◌∙◌, length}
 use Rattle.client.specs.Seen.{Seen}
 use Rattle.client.proofs.GivingBack.{balanced_told, balanced_returned, settled}
+use Rattle.std.proofs.Common.{List, subst, ℕ}
+use Rattle.client.specs.TakenBack.{Return, TookAll, untold_returns}
+use Rattle.client.proofs.TakingBack.{untold_stay}
 use Rattle.client.proofs.granted.Granted.close_with.Goals as goal
 
 pub returns-clause-settled : goal.returns-clause-settled
@@ -20,6 +23,9 @@ returns-clause-exact g c =
 pub returns-clause-within : goal.returns-clause-within
 returns-clause-within g c = c.self.invariant.0.within
 
+pub returns-clause-greatest : goal.returns-clause-greatest
+returns-clause-greatest g c = rw (← c.self.view_is) (c.tell_all.ensures.greatest ∙ c.give_back_all.ensures.greatest)
+
 pub returns-clause-standing : goal.returns-clause-standing
 returns-clause-standing g c =
     rw (← c.self.view_is) (c.tell_all.ensures.standing ∙ (c.give_back_all.ensures.standing ∙ c.self.invariant.1))
@@ -28,3 +34,17 @@ pub returns-clause-kept : goal.returns-clause-kept
 returns-clause-kept g c =
     let gone = c.into_gone.ensures.sides ∙ ap (λ (s : Seen). s.gone) c.tell_all.ensures.client in
     rw (← c.self.view_is, c.of-gone.ensures, gone) c.give_back_all.ensures.returns.gone
+
+pub returns-clause-found : goal.returns-clause-found
+returns-clause-found g c =
+    let gone = c.into_gone.ensures.sides ∙ ap (λ (s : Seen). s.gone) c.tell_all.ensures.client in
+    rw (← c.self.view_is, c.of-gone.ensures, gone) c.give_back_all.ensures.found
+
+pub returns-clause-took : goal.returns-clause-took
+returns-clause-took g c =
+    let back = c.give_back_all.ensures.took in
+    let same = untold_stay c.self.inside.client.leases c.self.inside.client c.give_back_all.new.client c.self.invariant.0.told c.give_back_all.ensures.found c.give_back_all.ensures.told in
+    let told = subst (λ (n : ℕ). TookAll g.G.Granter.took_back n (untold_returns c.self.inside.client) c.give_back_all.new.granter c.tell_all.new.granter) c.give_back_all.ensures.returns.number
+    (subst (λ (returns : List Return). TookAll g.G.Granter.took_back c.give_back_all.new.client.number returns c.give_back_all.new.granter c.tell_all.new.granter) same c.tell_all.ensures.took) in
+    let gone = c.into_gone.ensures.sides ∙ ap (λ (s : Seen). s.gone) c.tell_all.ensures.client in
+    rw (← c.self.view_is, c.of-gone.ensures, gone) (back.0, c.give_back_all.new.granter, back.1, back.2, told)

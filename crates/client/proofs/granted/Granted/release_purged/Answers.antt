@@ -2,7 +2,7 @@ use Rattle.std.proofs.Common.{◌∙◌, length}
 use Rattle.client.proofs.PieceCalls.{all_on}
 use Rattle.client.proofs.PiecesStay.{stay_told}
 use Rattle.client.proofs.Debts.{debt_swept}
-use Rattle.client.proofs.GivingBack.{balanced_on, balanced_told}
+use Rattle.client.proofs.GivingBack.{balanced_on, balanced_told, returned_told}
 use Rattle.client.proofs.Allocating.{gone_released}
 use Rattle.client.proofs.granted.Granted.release_purged.Goals as goal
 
@@ -22,3 +22,9 @@ returns-clause-stay g c =
 pub returns-clause-gone : goal.returns-clause-gone
 returns-clause-gone g c =
     rw (← c.self.view_is) (gone_released c.sweep-lost.ensures.sweeps.0 _ _ (record { swept = c.sweep-lost.new.self; sweeps = c.sweep-lost.ensures.sweeps.2; told = c.tell_all.ensures.client }))
+
+pub returns-clause-returned : goal.returns-clause-returned
+returns-clause-returned g c =
+    let debt = debt_swept c.sweep-lost.ensures.sweeps.0 _ _ c.sweep-lost.ensures.sweeps.2 in
+    let within = c.self.invariant.0.told in
+    rw (← c.self.view_is) (returned_told _ _ c.self.inside.client c.sweep-lost.new.self _ (debt.owed within) (debt.told within) c.tell_all.ensures.client c.tell_all.ensures.returns)
