@@ -55,10 +55,10 @@ module _ {G : Type 0} where
       (subst (λ (n : ℕ). IsUsedWith (λ (t : Tile). tile maker.image t.z t.x t.y maker.side) n cache) makes.size used)
 
   -- a request was served: its tile was shown and copied behind its head, and the cache rested
-  pub served_more : {moment : ℕ} (run : ServingValue) (asked : List Tile) (granter : G) (tile : Tile) (told : Shown) (old shown new : Cached G)
+  pub served_more : {begun moment : ℕ} (run : ServingValue) (asked : List Tile) (granter : G) (tile : Tile) (told : Shown) (old shown new : Cached G)
       → IsServeCfg run.cfg → length asked < MOST_REQUESTS
       → HasServed run asked granter old
-      → Gets tile told old shown → IsUsed run.tiling shown → Rests moment shown new
+      → Gets begun tile told old shown → IsUsed run.tiling shown → Rests moment shown new
       → HasServed run (asked ++ tile ∷ []) granter new
   served_more run asked granter tile told old shown new lawful few has gets used rests =
       let counts : new.counts ≡ counted told old.counts = ap (λ (c : Cached G). c.counts) rests.same ∙ gets.counts in

@@ -12,7 +12,7 @@ use Rattle.segment.specs.declared.owner.Lock.TheVariants.{Held, Gone}
 use Rattle.span_heap.specs.declared.run.Run.{Run}
 use Rattle.span_heap.specs.Run.{has_page}
 use Rattle.client.specs.Seen.{Seen, is_gone}
-use Rattle.client.specs.Pieces.{Part, Owns, OthersStay, UnlocksPiece, LocksPiece, AreApart, WritesPiece, part_after_lock, bytes_of}
+use Rattle.client.specs.Pieces.{Part, Owns, OthersStay, SameBytes, UnlocksPiece, LocksPiece, AreApart, WritesPiece, part_after_lock, bytes_of, written_run}
 use Rattle.units.specs.Sizes.{pages_for}
 use Rattle.client.specs.Sizes.{wanted}
 use Rattle.client.specs.Granting.{Session, Allocates, AllocatesCounted, granted_pages}
@@ -32,7 +32,8 @@ use Rattle.tile_cache.specs.declared.counts.Shown.TheVariants.{Kept, First, Rebu
 use Rattle.tile_cache.specs.Shown.{counted, no_counts}
 use Rattle.tile_cache.specs.declared.counts.Counts.{Counts}
 use Rattle.tile_cache.specs.Coming.{EntriesStay, GoneStay, Clears, Comes, ComesNone}
-use Rattle.tile_cache.specs.Getting.{Rests, UnlocksFirst, LocksEntry, MakesRoom, Adds, AddsNone, KeepsBytes, Lent, Writes, IsLost, others_of}
+use Rattle.tile_cache.specs.Steps.{UnlocksFirst, FreesFirst, NoneComes, unlocked}
+use Rattle.tile_cache.specs.Getting.{Rests, LocksEntry, MakesRoom, Adds, AddsInSteps, AddsNone, KeepsBytes, Lent, Writes, IsLost, others_of}
 use Rattle.tile_cache.proofs.TilesAskedLast.{StandsOnce, same_itself, absent_without}
 use Rattle.tile_cache.proofs.EntriesStay.{AreOthers, owned_stay, tiles_stay, others_stay, all_stay, first_differs, owned_rest, owned_again, others_differ, once_more}
 use Rattle.tile_cache.proofs.EntriesReordered.{Entry, sum_runs, sum_found, runs_all, owned_found, found_key, found_value, keys_found, runs_found, all_found, keys_without, length_without, absent_value}
@@ -65,7 +66,9 @@ module _ {G : Type 0} where
   -- nothing was locked
   pub rests_same : (now : ℕ) (cache : Cached G) → AreFree cache.entries → Rests now cache cache
   rests_same now cache free = record {
-    unlocks = unlocks_none cache.entries;
+    unlocks = unlocks_none cache.entries free;
+    entries = unlocked_same cache.entries free;
+    bytes = λ k d within there. refl;
     free = free;
     tiles = refl;
     runs = refl;
@@ -76,9 +79,17 @@ module _ {G : Type 0} where
     asked = λ asked stands. stands;
   }
     where
-      unlocks_none : (entries : List Entry) → UnlocksFirst now entries cache.session.client cache.session.client
-      unlocks_none [] = refl
-      unlocks_none (first ∷ others) = inr refl
+      unlocks_none : (entries : List Entry) → AreFree entries → UnlocksFirst now entries cache.session.client cache.session.client
+      unlocks_none [] free = refl
+      unlocks_none (first ∷ others) free = rw (All-head (λ (e : Entry). e.1.locked ≡ false) first others free) refl
+
+      unlocked_same : (entries : List Entry) → AreFree entries → entries ≡ unlocked entries
+      unlocked_same [] free = refl
+      unlocked_same (first ∷ others) free = ap (λ b. (first.0, record first.1 { locked = b }) ∷ others) (All-head (λ (e : Entry). e.1.locked ≡ false) first others free)
+
+-- the same entries have the same first one
+same_first : (one other : Entry) (ones others : List Entry) → one ∷ ones ≡ other ∷ others → one ≡ other
+same_first one other ones others is = cc
 
 -- the first of some entries
 pub first_is : (entries : List Entry) (e : Entry) → slice_get entries 0 ≡ Some e → entries ≡ e ∷ drop 1 entries
@@ -119,16 +130,18 @@ unlocked_tiles tile_of old new count tile piece others gone unlocks stay tiles =
     (tiles_stay tile_of old new count others stay (All-tail (λ (e : Entry). HasBytes old count (tile_of e.0) e.1) (tile, piece) others tiles))
 
 module _ {G : Type 0} (old : Cached G) (room : ℕ) (tile : Tile) (piece : Part) (others : List Entry) (client : Seen) (now : ℕ) (told : Unlocked) where
-  pub unlocked_first : IsSoundCache old room → old.entries ≡ (tile, piece) ∷ others → UnlocksRun piece.run now told old.session.client client → UnlocksPiece piece old.session.client client
+  pub unlocked_first : IsSoundCache old room → old.entries ≡ (tile, piece) ∷ others → piece.locked ≡ true → UnlocksRun piece.run now told old.session.client client → UnlocksPiece piece old.session.client client
       → Rests now old (with_entries old client ((tile, record piece { locked = false }) ∷ others)) × IsSoundCache (with_entries old client ((tile, record piece { locked = false }) ∷ others)) room
-  unlocked_first kept is run unlocks =
+  unlocked_first kept is locked run unlocks =
       let owned : OwnsEntries old.session.client ((tile, piece) ∷ others) = rw is at kept.entries in
       let free : AreFree others = owned.free in
       let rest = owned_rest old.session.client tile piece others owned free in
       let stay = others_stay old.session.client client piece.run others unlocks.stay rest.owned (first_differs old.session.client tile piece others owned) in
       let unmoved = unmoved_unlocked piece.run now told old.session.client client run in (
         record {
-          unlocks = rw is (inl (told, run));
+          unlocks = rw is (rw locked (told, run));
+          entries = sym (ap unlocked is);
+          bytes = rw is (All-cons (λ (e : Entry). SameBytes e.1.run old.session.client client) (tile, piece) others (λ there. unlocks.bytes) (λ k d within. (stay k d within).bytes));
           free = All-cons (λ (e : Entry). e.1.locked ≡ false) (tile, record piece { locked = false }) others refl free;
           tiles = sym (ap keys_of is);
           runs = sym (ap runs_of is);
@@ -182,10 +195,14 @@ module _ {G : Type 0} (old : Cached G) (room : ℕ) (tile : Tile) (e : Entry) (c
         record {
           piece = e.1;
           found = value;
+          locks = locks;
+          there = λ is. rw (locked_gone e.1 old.session.client client (rw is at locks)) at (leaves.held is).1;
+          bytes = λ is. (leaves.held is).0;
           shown = found_shown;
           others = others_found;
           entries = ap (λ t. (t, part_after_lock told e.1) ∷ others_found) key;
           was_free = All-head (λ (e : Entry). e.1.locked ≡ false) e others_found (all_found (λ (e : Entry). e.1.locked ≡ false) (is_same tile) old.entries e found free);
+          rest = sym (take_all (old.most - 1) others_found (omega (arith, fewer, few)));
           left = keys ∙ sym (take_all (old.most - 1) (without tile (tiles_of old)) keys_few);
           few = omega (arith, fewer, few);
           free = front.1;
@@ -270,7 +287,10 @@ module _ {G : Type 0} (old : Cached G) (room : ℕ) (gone : Entry) (others : Lis
       let keys_is : keys_of old.entries ≡ keys_of others ++ gone.0 ∷ [] = ap keys_of is ∙ map-append (λ (e : Entry). e.0) others (gone ∷ []) in (
         record {
           left = front;
-          freed = λ last at. (told, subst (λ (e : Entry). AfterFree told e.1 now old.session.client client) (same_last (append_cancel_left others (gone ∷ []) (last ∷ []) (sym is ∙ at))) frees);
+          frees = record {
+            freed = λ last at. (told, subst (λ (e : Entry). AfterFree told e.1 now old.session.client client) (same_last (append_cancel_left others (gone ∷ []) (last ∷ []) (sym is ∙ at))) frees);
+            same = λ all. absurd (omega (arith, ap length (all ∙ is), length-append others (gone ∷ [])));
+          };
           gone = unmoved.gone;
           name = unmoved.goes.name;
           pages = unmoved.goes.pages;
@@ -299,7 +319,7 @@ module _ {G : Type 0} (old : Cached G) (room : ℕ) (gone : Entry) (others : Lis
 -- where there is room, nothing is left out
 pub left_none : {G : Type 0} (now : ℕ) (old : Cached G) → length old.entries < old.most → MakesRoom now old old
 left_none now old room = record {
-  freed = λ last at. absurd (omega (arith, ap length at, length-append old.entries (last ∷ [])));
+  frees = record { freed = λ last at. absurd (omega (arith, ap length at, length-append old.entries (last ∷ []))); same = λ all. refl };
   left = sym (take_all (old.most - 1) old.entries (omega (arith, room)));
   gone = refl;
   name = same_name old.session.client;
@@ -310,12 +330,13 @@ left_none now old room = record {
 
 -- the first entry left, where it is lost
 pub cleared : {G : Type 0} (now : ℕ) (told : Bool) (tile : Tile) (piece : Part) (others : List Entry) (old new : Session G) → OwnsEntries old.client ((tile, piece) ∷ others) → AreFree others
-    → AfterFree told piece now old.client new.client → OthersStay piece.run old.client new.client → new ≡ record old { client = new.client } → Clears Rebuilt old new ((tile, piece) ∷ others) others
+    → AfterFree told piece now old.client new.client → OthersStay piece.run old.client new.client → new ≡ record old { client = new.client } → Clears now Rebuilt old new ((tile, piece) ∷ others) others
 cleared now told tile piece others old new owned free frees stays same =
     let freed = owned_freed told piece now old.client new.client others (owned_rest old.client tile piece others owned free) (first_differs old.client tile piece others owned) stays in
     let unmoved = unmoved_freed told piece now old.client new.client frees in
     record {
       entries = refl;
+      frees = λ first rest is. (told, subst (λ (e : Entry). AfterFree told e.1 now old.client new.client) (same_first (tile, piece) first others rest is) frees);
       owned = freed.0;
       stay = freed.1;
       gone = unmoved.gone;
@@ -329,11 +350,12 @@ cleared now told tile piece others old new owned free frees stays same =
 stays_same : (client : Seen) (entries : List Entry) → OwnsEntries client entries → EntriesStay client client entries
 stays_same client entries owned = λ k d within. record { owned = owned.owned k d within; gone = λ is. is; bytes = λ there. refl }
 
-pub cleared_none : {G : Type 0} (told : Shown) (session : Session G) (entries : List Entry) → (told ≡ Rebuilt → ⊥) → OwnsEntries session.client entries → Clears told session session entries entries
-cleared_none told session entries differ owned =
+pub cleared_none : {G : Type 0} (now : ℕ) (told : Shown) (session : Session G) (entries : List Entry) → (told ≡ Rebuilt → ⊥) → OwnsEntries session.client entries → Clears now told session session entries entries
+cleared_none now told session entries differ owned =
     let same : others_of told entries ≡ entries = others_same told differ in
     record {
       entries = sym same;
+      frees = frees_none told differ;
       owned = rw same owned;
       stay = rw same (stays_same session.client entries owned);
       gone = refl;
@@ -343,6 +365,12 @@ cleared_none told session entries differ owned =
       same = refl;
     }
   where
+    frees_none : (told : Shown) → (told ≡ Rebuilt → ⊥) → FreesFirst now told entries session.client session.client
+    frees_none Rebuilt differ = absurd (differ refl)
+    frees_none Kept differ = refl
+    frees_none First differ = refl
+    frees_none Again differ = refl
+
     others_same : (told : Shown) → (told ≡ Rebuilt → ⊥) → others_of told entries ≡ entries
     others_same Rebuilt differ = absurd (differ refl)
     others_same Kept differ = refl
@@ -359,7 +387,7 @@ wanted_is size pages is = go (nat_lt MOST_PAGES (pages_for size)) is
         let same : pages_for size ≡ pages = same_Some _ _ is in
         (sym same, rw (← same) (omega arith))
 
-module _ {G : Type 0} (old : Cached G) (room size : ℕ) (told : Shown) (between : Session G) (entries : List Entry) (kept : IsSoundCache old room) (sized : (old.tile_bytes ≡ 0) ⊎ (old.tile_bytes ≡ size)) (clears : Clears told old.session between old.entries entries) where
+module _ {G : Type 0} (old : Cached G) (room size : ℕ) (now : ℕ) (told : Shown) (between : Session G) (entries : List Entry) (kept : IsSoundCache old room) (sized : (old.tile_bytes ≡ 0) ⊎ (old.tile_bytes ≡ size)) (clears : Clears now told old.session between old.entries entries) where
   abbrev pub others : List Entry
   others = others_of told old.entries
 
@@ -430,8 +458,8 @@ module _ {G : Type 0} (old : Cached G) (room size : ℕ) (told : Shown) (between
     abbrev pub cache_none : Cached G
     cache_none = record old { session = session; entries = entries_now; shown = shown; tile_bytes = size; failed = true }
 
-    pub came_none : 1 ≤ size → ComesNone size between session entries entries_now old.shown shown
-        → (AddsNone told size old cache_none × ((tile_of : Tile → List ℕ) → IsUsedWith tile_of size old → IsUsedWith tile_of size cache_none)) × IsSoundCache cache_none room
+    pub came_none : 1 ≤ size → ComesNone now size between session entries entries_now old.shown shown
+        → (AddsNone now told size old cache_none × ((tile_of : Tile → List ℕ) → IsUsedWith tile_of size old → IsUsedWith tile_of size cache_none)) × IsSoundCache cache_none room
     came_none some none =
         let is : entries_now ≡ others = none.entries ∙ clears.entries in
         let stay : EntriesStay between.client session.client others = rw clears.entries at none.stay in
@@ -439,6 +467,9 @@ module _ {G : Type 0} (old : Cached G) (room size : ℕ) (told : Shown) (between
         let standard : granted_pages between.client (pages_for size) ≡ granted_pages old.session.client (pages_for size) = ap (max (pages_for size)) clears.name.standard in (
           (
             record {
+              ready = between.client;
+              frees = clears.frees;
+              none = subst (λ (s : Session G). NoneComes now size s session) clears.same none.none;
               entries = is;
               shown = none.shown;
               counts = refl;
@@ -517,6 +548,19 @@ module _ {G : Type 0} (old : Cached G) (room size : ℕ) (told : Shown) (between
 
     abbrev pub cache_one : Cached G
     cache_one = record old { session = session; entries = entries_now; shown = shown; counts = counted told old.counts; tile_bytes = size }
+
+    -- the steps of it
+    pub came_steps : (tile : Tile) → Comes tile size between session entries entries_now old.shown shown → AddsInSteps now told tile size old cache_one
+    came_steps tile comes = record {
+      ready = between.client;
+      frees = clears.frees;
+      piece = comes.piece;
+      pages = comes.pages;
+      wants = comes.wants;
+      counted = subst (λ (s : Session G). AllocatesCounted comes.pages comes.piece s session) clears.same comes.counted;
+      fresh = comes.fresh;
+      entries = comes.entries ∙ ap (λ es. (tile, comes.piece) ∷ es) clears.entries;
+    }
 
     pub came_one : (tile : Tile) → 1 ≤ size → AreFree old.entries → (told ≢ Kept) → (told ≡ Rebuilt → IsLost tile old) → Comes tile size between session entries entries_now old.shown shown
         → (Adds told tile size old cache_one × KeepsBytes size old cache_one) × IsSoundCache cache_one room
@@ -599,10 +643,10 @@ module _ {G : Type 0} (old : Cached G) (room : ℕ) (tile : Tile) (piece : Part)
   with_bytes_of = record old { session = record old.session { client = client } }
 
   pub filled : IsSoundCache old room → old.entries ≡ (tile, piece) ∷ others → piece.locked ≡ true → WritesPiece piece w old.session.client client
-      → client.gone ≡ old.session.client.gone → client.heap ≡ old.session.client.heap → KeepsName old.session.client client → SameSegments old.session.client client
+      → client ≡ written_run old.session.client piece.run w → client.gone ≡ old.session.client.gone → client.heap ≡ old.session.client.heap → KeepsName old.session.client client → SameSegments old.session.client client
       → take old.tile_bytes w ≡ tile_of tile → HaveTiles tile_of old.session.client old.tile_bytes (drop 1 old.entries)
       → (Lent tile (tile_of tile) with_bytes_of × IsUsedWith tile_of old.tile_bytes with_bytes_of) × (Writes old with_bytes_of × IsSoundCache with_bytes_of room)
-  filled kept is locked writes gone heap name segments front tiles =
+  filled kept is locked writes written gone heap name segments front tiles =
       let owned : OwnsEntries old.session.client ((tile, piece) ∷ others) = rw is at kept.entries in
       let rest = owned_rest old.session.client tile piece others owned owned.free in
       let stay = others_stay old.session.client client piece.run others writes.stay rest.owned (first_differs old.session.client tile piece others owned) in
@@ -616,7 +660,13 @@ module _ {G : Type 0} (old : Cached G) (room : ℕ) (tile : Tile) (piece : Part)
           },
         ),
         (
-          record { heap = heap; gone = gone; name = name; same = refl },
+          record {
+            wrote = λ first others' at. (w, subst (λ (e : Entry). client ≡ written_run old.session.client e.1.run w) (same_first (tile, piece) first others others' (sym is ∙ at)) written);
+            heap = heap;
+            gone = gone;
+            name = name;
+            same = refl;
+          },
           record {
             entries = rw is again;
             sized = kept.sized;

@@ -13,7 +13,7 @@ use Rattle.tile_source.specs.declared.tile.Tile.{Tile}
 use Rattle.segment.specs.declared.owner.Lock.{Lock}
 use Rattle.span_heap.specs.declared.run.Run.{Run}
 use Rattle.client.specs.Seen.{Seen}
-use Rattle.client.specs.Pieces.{Part, Owns, OthersStay, UnlocksPiece, LocksPiece, WritesPiece, bytes_of, part_after_lock}
+use Rattle.client.specs.Pieces.{Part, Owns, OthersStay, UnlocksPiece, LocksPiece, WritesPiece, bytes_of, part_after_lock, written_run}
 use Rattle.client.specs.Calls.{KeepsName, UnlocksRun, LocksPart, AfterFree}
 use Rattle.units.specs.Sizes.{pages_for}
 use Rattle.units.specs.declared.TheConstants.{PAGE}
@@ -63,12 +63,12 @@ module _ {G : Type 0} (old : Cached G) (room : ℕ) (kept : IsSoundCache old roo
       ap (λ (s : Session G). record old { session = s; entries = entries }) same ∙ ap (λ (es : List Entry). with_entries old session.client es) is
 
   -- the first piece was unlocked
-  pub rest_done : (e : Entry) (found piece : Part) (now : ℕ) (told : Unlocked) → slice_get old.entries 0 ≡ Some e → Some found ≡ lookup (is_same e.0) old.entries
+  pub rest_done : (e : Entry) (found piece : Part) (now : ℕ) (told : Unlocked) → slice_get old.entries 0 ≡ Some e → e.1.locked ≡ true → Some found ≡ lookup (is_same e.0) old.entries
       → UnlocksRun found.run now told old.session.client session.client → UnlocksPiece found old.session.client session.client → piece ≡ record found { locked = false }
       → Rests now old (with_session (set_value (is_same e.0) old.entries piece)) × IsSoundCache (with_session (set_value (is_same e.0) old.entries piece)) room
-  rest_done e found piece now told first at run unlocks is =
+  rest_done e found piece now told first locked at run unlocks is =
       let found_is = found_first old.entries e found first at in
-      let done = unlocked_first old room e.0 e.1 (drop 1 old.entries) session.client now told kept (first_is old.entries e first) (rw found_is at run) (rw found_is at unlocks) in
+      let done = unlocked_first old room e.0 e.1 (drop 1 old.entries) session.client now told kept (first_is old.entries e first) locked (rw found_is at run) (rw found_is at unlocks) in
       let entries : set_value (is_same e.0) old.entries piece ≡ (e.0, record e.1 { locked = false }) ∷ drop 1 old.entries = set_first e.0 piece old.entries e first refl ∙ ap (λ (p : Part). (e.0, p) ∷ drop 1 old.entries) (is ∙ ap (λ (p : Part). record p { locked = false }) found_is) in
       let new = with_same _ _ entries in
       (subst (λ (c : Cached G). Rests now old c) (sym new) done.0, subst (λ (c : Cached G). IsSoundCache c room) (sym new) done.1)
@@ -137,21 +137,22 @@ last_there (x ∷ entries) most none some full = no_last x entries none
 
 -- a lost entry left
 pub clear_done : {G : Type 0} (now : ℕ) (told : Bool) (e : Entry) (entries entries_now : List Entry) (old new : Session G) → OwnsEntries old.client entries → AreFree entries → slice_get entries 0 ≡ Some e
-    → entries_now ≡ drop 1 entries → AfterFree told e.1 now old.client new.client → OthersStay e.1.run old.client new.client → new ≡ record old { client = new.client } → Clears Rebuilt old new entries entries_now
+    → entries_now ≡ drop 1 entries → AfterFree told e.1 now old.client new.client → OthersStay e.1.run old.client new.client → new ≡ record old { client = new.client } → Clears now Rebuilt old new entries entries_now
 clear_done {G} now told e entries entries_now old new owned free first left frees stays same =
     let is = first_is entries e first in
     let done = cleared now told e.0 e.1 (drop 1 entries) old new (rw is at owned) (rest_free e (drop 1 entries) (rw is at free)) frees stays same in
-    subst (λ (es : List Entry). Clears Rebuilt old new entries es) (sym left) (rw is done)
+    subst (λ (es : List Entry). Clears now Rebuilt old new entries es) (sym left) (rw is done)
   where
     rest_free : (e : Entry) (es : List Entry) → AreFree (e ∷ es) → AreFree es
     rest_free e es all = λ k d within. all (suc k) d (omega (arith, within))
 
 -- there is none
-pub clear_empty : {G : Type 0} (session : Session G) (entries entries_now : List Entry) → OwnsEntries session.client entries → None ≡ slice_get entries 0 → entries_now ≡ drop 1 entries → Clears Rebuilt session session entries entries_now
-clear_empty session entries entries_now owned none left =
+pub clear_empty : {G : Type 0} (now : ℕ) (session : Session G) (entries entries_now : List Entry) → OwnsEntries session.client entries → None ≡ slice_get entries 0 → entries_now ≡ drop 1 entries → Clears now Rebuilt session session entries entries_now
+clear_empty now session entries entries_now owned none left =
     let empty = none_first entries (sym none) in
     record {
       entries = left;
+      frees = λ first rest is. absurd (no_first (sym empty ∙ is));
       owned = rw empty (rw empty at owned);
       stay = rw empty (λ k d within. absurd (omega (arith, within)));
       gone = refl;
@@ -160,6 +161,9 @@ clear_empty session entries entries_now owned none left =
       segments = segments_same session.client session.client refl;
       same = refl;
     }
+  where
+    no_first : {first : Entry} {rest : List Entry} → [] ≡ first ∷ rest → ⊥
+    no_first e = cc
 
 -- the first entry as it is peeked at is the first
 pub peeked : (entries : List Entry) (tile key : Tile) (piece found : Part) (others : List Entry) → entries ≡ (tile, piece) ∷ others → Some (key, found) ≡ slice_get entries 0 → found ≡ piece
@@ -170,13 +174,13 @@ peeked (x ∷ entries) tile key piece found others is at =
 
 module _ {G : Type 0} (old : Cached G) (room : ℕ) (kept : IsSoundCache old room) (tile : Tile) (tile_of : Tile → List ℕ) (first : IsFirst tile old) (key : Tile) (piece : Part) (at : Some (key, piece) ≡ slice_get old.entries 0) where
   -- the first piece was written
-  pub fill_done : (client : Seen) (w : List ℕ) → WritesPiece piece w old.session.client client → client.gone ≡ old.session.client.gone → client.heap ≡ old.session.client.heap → KeepsName old.session.client client → SameSegments old.session.client client
+  pub fill_done : (client : Seen) (w : List ℕ) → WritesPiece piece w old.session.client client → client ≡ written_run old.session.client piece.run w → client.gone ≡ old.session.client.gone → client.heap ≡ old.session.client.heap → KeepsName old.session.client client → SameSegments old.session.client client
       → take old.tile_bytes w ≡ tile_of tile → HaveTiles tile_of old.session.client old.tile_bytes (drop 1 old.entries)
       → (Lent tile (tile_of tile) (record old { session = record old.session { client = client } }) × IsUsedWith tile_of old.tile_bytes (record old { session = record old.session { client = client } }))
       × (Writes old (record old { session = record old.session { client = client } }) × IsSoundCache (record old { session = record old.session { client = client } }) room)
-  fill_done client w writes gone heap name segments front tiles =
+  fill_done client w writes written gone heap name segments front tiles =
       let is = peeked old.entries tile key first.0 piece first.1 first.2 at in
-      filled old room tile first.0 first.1 client w tile_of kept first.2 first.3 (rw is at writes) gone heap name segments front tiles
+      filled old room tile first.0 first.1 client w tile_of kept first.2 first.3 (rw is at writes) (rw is at written) gone heap name segments front tiles
 
 -- a tile's bytes lie in its pages
 pub pages_hold : (n : ℕ) → n ≤ PAGE * pages_for n

@@ -1,5 +1,5 @@
 -- What an entry's coming does to the client and the entries, from the calls that it makes.
-use Rattle.std.proofs.Common.{◌≡◌, ◌≢◌, ℕ, ◌-◌, ◌<◌, ◌≤◌, Bool, true, false, ◌||◌, cond, List, [], ◌∷◌, length, get_or, Some, None, Err, refl, ap, ◌∙◌, arith}
+use Rattle.std.proofs.Common.{◌≡◌, ◌≢◌, ℕ, ◌-◌, ◌<◌, ◌≤◌, Bool, true, false, ◌||◌, cond, List, [], ◌∷◌, length, get_or, Some, None, Err, refl, ap, ◌∙◌, inl, inr, arith}
 use Rattle.std.specs.Map.{lookup, lookup_entry}
 use Rattle.std.proofs.lemmas.Bool.{both_ways}
 use Rattle.std.proofs.lemmas.List.{take_all}
@@ -14,6 +14,7 @@ use Rattle.client.specs.Pieces.{Part, AllStay, OthersStay, IsNew, AreApart}
 use Rattle.client.specs.Calls.{KeepsName, AfterFree}
 use Rattle.client.specs.Granting.{Session, Misses, IsTooLarge, IsOutOfMemory}
 use Rattle.tile_cache.specs.Cached.{OwnsEntries}
+use Rattle.tile_cache.specs.Steps.{NoneComes}
 use Rattle.tile_cache.specs.Coming.{EntriesStay, GoneStay}
 use Rattle.tile_cache.proofs.ClientSteps.{same_name, name_on, name_found, still_gone}
 use Rattle.tile_cache.proofs.EntriesReordered.{Entry}
@@ -27,6 +28,10 @@ name_missed pages old new misses =
 pub name_none : {G : Type 0} (size : ℕ) (fault : ClientFault) (old new : Session G) → IsTooLarge size (Err fault) old new → IsOutOfMemory size (Err fault) old new → KeepsName old.client new.client
 name_none size fault.NoMemory old new large out = name_missed out.0 old.client new.client out.2
 name_none size (fault.TooLarge pages) old new large out = rw large.2 (same_name old.client)
+
+pub none_came : {G : Type 0} (now size : ℕ) (fault : ClientFault) (old new : Session G) → IsTooLarge size (Err fault) old new → IsOutOfMemory size (Err fault) old new → NoneComes now size old new
+none_came now size fault.NoMemory old new large out = inr (inl out)
+none_came now size (fault.TooLarge pages) old new large out = inl large.2
 
 pub gone_stays : (old new : Seen) → Includes old.gone new.gone → GoneStay old new
 gone_stays old new includes = λ id was. still_gone old.gone new.gone id includes was

@@ -1,25 +1,29 @@
 -- A get, from its steps.
 use Rattle.std.proofs.Common.{◌≡◌, ℕ, zero, suc, ◌-◌, ◌≤◌, max, Bool, true, false, ◌||◌, cond, List, [], ◌∷◌, take, drop, Some, None, refl, sym, ap, subst, ◌∙◌, inl, inr, arith, length-take}
-use Rattle.std.specs.Map.{keys_of, lookup}
+use Rattle.std.specs.Map.{keys_of, lookup, remove_entry}
 use Rattle.std.proofs.lemmas.Bool.{cases_Bool}
 use Rattle.std.proofs.lemmas.List.{take-map}
-use Rattle.std.proofs.lemmas.List.Elements.{All-cons, All-take, All-head}
+use Rattle.std.proofs.lemmas.List.Elements.{All-cons, All-take, All-head, All-tail}
+use Rattle.std.proofs.lemmas.Option.{same_Some}
+use Rattle.std.specs.List.{All}
 use Rattle.tile_source.specs.declared.tile.Tile.{Tile}
 use Rattle.units.specs.Count.{next_count}
+use Rattle.segment.specs.declared.owner.Lock.{Lock}
 use Rattle.segment.specs.declared.owner.Lock.TheVariants as lock
 use Rattle.span_heap.specs.Heap.{size_of}
-use Rattle.client.specs.Seen.{is_gone}
-use Rattle.client.specs.Pieces.{Part, part_after_lock}
+use Rattle.client.specs.Seen.{Seen, is_gone}
+use Rattle.client.specs.Pieces.{Part, SameBytes, part_after_lock}
 use Rattle.units.specs.Sizes.{pages_for}
 use Rattle.client.specs.Calls.{KeepsName}
-use Rattle.client.specs.Granting.{granted_pages}
+use Rattle.client.specs.Granting.{Session, AllocatesCounted, granted_pages}
 use Rattle.tile_cache.specs.declared.counts.Shown.{Shown}
 use Rattle.tile_cache.specs.declared.counts.Shown.TheVariants.{Kept, First, Rebuilt, Again}
 use Rattle.tile_cache.specs.Recent.{is_same, has_tile, without}
 use Rattle.tile_cache.specs.Shown.{counted, made_after}
 use Rattle.tile_cache.specs.declared.counts.Counts.{Counts}
 use Rattle.tile_cache.specs.Cached.{Cached, IsUsedWith, HasBytes, runs_of, tiles_of}
-use Rattle.tile_cache.specs.Getting.{Answers, HasEntry, Gets, Fails, Lent, KeepsMaking, ChangesEntries, KeepsUse, Rests, LocksEntry, HasNone, MakesRoom, IsReady, StandsReady, LooksUp, Adds, AddsNone, Writes, left, others_of, pages_of}
+use Rattle.tile_cache.specs.Steps.{FreesFirst, LooksFor, ComesWritten, ShowsPiece, ShowsInSteps, NoneComes, unlocked, left_entries}
+use Rattle.tile_cache.specs.Getting.{Answers, HasEntry, KeepsPiece, Gets, Fails, Lent, KeepsMaking, ChangesEntries, KeepsUse, Rests, LocksEntry, HasNone, MakesRoom, IsReady, StandsReady, LeavesRoom, BringsEntry, FindsEntry, LooksUp, Adds, AddsInSteps, AddsNone, Writes, left, others_of, pages_of}
 use Rattle.tile_cache.proofs.TilesAskedLast.{without_absent, same_is}
 use Rattle.tile_cache.proofs.EntriesReordered.{Entry, key_absent}
 use Rattle.tile_cache.proofs.ClientSteps.{name_on}
@@ -55,11 +59,38 @@ absent_fewer tile (suc n) (e ∷ es) none = go (is_same tile e.0) none (absent_f
     go true is rest = cc
     go false is rest = rest is
 
+-- no entry is removed where none is the tile's
+remove_absent : (tile : Tile) (es : List Entry) → lookup (is_same tile) es ≡ None → remove_entry (is_same tile) es ≡ es
+remove_absent tile [] none = refl
+remove_absent tile (e ∷ es) none = go (is_same tile e.0) none (remove_absent tile es)
+  where
+    go : (b : Bool) → cond b (Some e.1) (lookup (is_same tile) es) ≡ None → (lookup (is_same tile) es ≡ None → remove_entry (is_same tile) es ≡ es) → cond b es (e ∷ remove_entry (is_same tile) es) ≡ e ∷ es
+    go true is rest = cc
+    go false is rest = ap (λ xs. e ∷ xs) (rest is)
+
+-- what holds of each entry's piece holds of the one that is found
+found_all : (P : Part → Type 0) (tile : Tile) (es : List Entry) (piece : Part) → lookup (is_same tile) es ≡ Some piece → All (λ (e : Entry). P e.1) es → P piece
+found_all P tile [] piece found all = cc
+found_all P tile (e ∷ es) piece found all = go (is_same tile e.0) found (λ later. found_all P tile es piece later (All-tail (λ (e : Entry). P e.1) e es all))
+  where
+    go : (b : Bool) → cond b (Some e.1) (lookup (is_same tile) es) ≡ Some piece → (lookup (is_same tile) es ≡ Some piece → P piece) → P piece
+    go true is rest = subst P (same_Some _ _ is) (All-head (λ (e : Entry). P e.1) e es all)
+    go false is rest = rest is
+
 again_differs : Again ≡ Rebuilt → ⊥
 again_differs e = cc
 
 first_differs : First ≡ Rebuilt → ⊥
 first_differs e = cc
+
+rebuilt_made : Rebuilt ≡ Kept → ⊥
+rebuilt_made e = cc
+
+again_made : Again ≡ Kept → ⊥
+again_made e = cc
+
+first_made : First ≡ Kept → ⊥
+first_made e = cc
 
 module _ {G : Type 0} where
   pub changes_on : (one two three : Cached G) → ChangesEntries one two → ChangesEntries two three → ChangesEntries one three
@@ -98,13 +129,42 @@ module _ {G : Type 0} where
     left_same : left rested.most tile (tiles_of rested) ≡ left old.most tile (tiles_of old)
     left_same = rw (most_same, rests.tiles) refl
 
+    entries_left : (entries : List Entry) → entries ≡ left_entries rested.most tile rested.entries → entries ≡ left_entries old.most tile (unlocked old.entries)
+    entries_left entries is = is ∙ rw (most_same, rests.entries) refl
+
+    brings : (told : Lock) (new : Cached G) → LocksEntry tile told rested new → BringsEntry tile told rested.session.client old new
+    brings told new locks = record {
+      piece = locks.piece;
+      was_free = locks.was_free;
+      locks = record { found = rw rests.entries at locks.found; locks = locks.locks };
+      entries = locks.entries ∙ ap (λ es. (tile, part_after_lock told locks.piece) ∷ es) (entries_left locks.others locks.rest);
+    }
+
+    piece_kept : (new : Cached G) → LocksEntry tile lock.Held rested new → KeepsPiece tile old new
+    piece_kept new locks =
+        let (piece, found, run) = found_same tile rested.entries old.entries locks.piece (sym rests.tiles) (sym rests.runs) locks.found in
+        let before : SameBytes piece.run old.session.client rested.session.client = found_all (λ (p : Part). SameBytes p.run old.session.client rested.session.client) tile old.entries piece found rests.bytes in
+        record {
+          piece = piece;
+          found = found;
+          shown = part_after_lock lock.Held locks.piece;
+          others = locks.others;
+          entries = locks.entries;
+          run = sym run;
+          bytes = rw (← run) at (locks.bytes refl) ∙ before (rw (← run) at (locks.there refl));
+        }
+
     entry_before : (gone : Bool) (new : Cached G) (piece : Part) → lookup (is_same tile) rested.entries ≡ Some piece → is_gone new.session.client piece.run.segment ≡ gone → HasEntry gone tile old new
     entry_before gone new piece found is =
         let was = found_same tile rested.entries old.entries piece (sym rests.tiles) (sym rests.runs) found in
         (was.0, was.1, rw was.2 is)
 
-    pub looked_kept : (new : Cached G) → LocksEntry tile lock.Held rested new → LooksUp Kept tile old new
+    pub looked_kept : (new : Cached G) → LocksEntry tile lock.Held rested new → LooksUp moment Kept tile old new
     looked_kept new locks = record {
+      rested = rested.session.client;
+      rests = rests.unlocks;
+      finds = brings lock.Held new locks;
+      kept = λ is. piece_kept new locks;
       answer = entry_before false new locks.piece locks.found (locks.held refl);
       ready = record {
         piece = part_after_lock lock.Held locks.piece;
@@ -122,11 +182,15 @@ module _ {G : Type 0} where
       used = use_on old rested new rests.used locks.used;
     }
 
-    pub looked_gone : (new : Cached G) → LocksEntry tile lock.Gone rested new → LooksUp Rebuilt tile old new
+    pub looked_gone : (new : Cached G) → LocksEntry tile lock.Gone rested new → LooksUp moment Rebuilt tile old new
     looked_gone new locks =
         let others : drop 1 new.entries ≡ locks.others = ap (drop 1) locks.entries in
         let most : new.most ≡ rested.most = ap (λ (c : Cached G). c.most) locks.same in
         record {
+          rested = rested.session.client;
+          rests = rests.unlocks;
+          finds = brings lock.Gone new locks;
+          kept = λ is. absurd (rebuilt_made is);
           answer = entry_before true new locks.piece locks.found (locks.gone refl);
           ready = record {
             can = record {
@@ -142,6 +206,17 @@ module _ {G : Type 0} where
           pages = omega (arith, locks.pages, pages_same);
           same = changes_on old rested new rests.same locks.same;
           used = use_on old rested new rests.used locks.used;
+        }
+
+    leaves_room : (none new : Cached G) → HasNone tile rested none → MakesRoom moment none new → LeavesRoom moment tile rested.session.client old new
+    leaves_room none new has leaves =
+        let leaves' : MakesRoom moment rested new = rw has.same at leaves in
+        let kept : take (rested.most - 1) rested.entries ≡ left_entries rested.most tile rested.entries = ap (take (rested.most - 1)) (sym (remove_absent tile rested.entries has.none)) in
+        let entries : new.entries ≡ left_entries old.most tile (unlocked old.entries) = entries_left new.entries (leaves'.left ∙ kept) in
+        record {
+          none = rw rests.entries at has.none;
+          frees = rw (entries, rests.entries) at leaves'.frees;
+          entries = entries;
         }
 
     ready_none : (now : ℕ) (told : Shown) (none new : Cached G) → others_of told new.entries ≡ new.entries → (told ≡ Rebuilt → ⊥) → HasNone tile rested none → MakesRoom now none new → IsReady told tile old new
@@ -161,8 +236,10 @@ module _ {G : Type 0} where
           left = ap keys_of others ∙ (keys ∙ (ap (take (rested.most - 1)) (sym absent) ∙ left_same));
         }
 
-    pub looked_none : (now : ℕ) (none new : Cached G) (told : Shown) → HasNone tile rested none → MakesRoom now none new → told ≡ cond (has_tile new.shown tile) Again First → LooksUp told tile old new
-    looked_none now none new told has leaves kind =
+    pub looked_none : (none new : Cached G) (told : Shown) → HasNone tile rested none → MakesRoom moment none new → told ≡ cond (has_tile new.shown tile) Again First → LooksUp moment told tile old new
+    looked_none none new told has leaves kind =
+        let now = moment in
+        let finds = leaves_room none new has leaves in
         let shown : new.shown ≡ old.shown = ap (λ (c : Cached G). c.shown) leaves.same ∙ (ap (λ (c : Cached G). c.shown) has.same ∙ shown_same) in
         let some : 1 ≤ old.most = omega (arith, has.some, most_same) in
         let name = name_on old.session.client rested.session.client new.session.client rests.name (rw has.same at leaves.name) in
@@ -170,20 +247,74 @@ module _ {G : Type 0} where
         let same = changes_on old rested new rests.same (rw has.same at leaves.same) in
         let used = use_on old rested new rests.used (rw has.same at leaves.used) in
         let absent : has_tile (tiles_of old) tile ≡ false = rw rests.tiles at (key_absent tile rested.entries has.none) in
-        subst (λ k. LooksUp k tile old new) (sym (kind ∙ ap (λ ts. cond (has_tile ts tile) Again First) shown)) (elim (has_tile old.shown tile) as (λ b. has_tile old.shown tile ≡ b → LooksUp (cond b Again First) tile old new) [
-          | true ↦ λ is. record { answer = (is, absent); ready = ready_none now Again none new refl again_differs has leaves; some = some; name = name; pages = pages; same = same; used = used }
-          | false ↦ λ is. record { answer = is; ready = ready_none now First none new refl first_differs has leaves; some = some; name = name; pages = pages; same = same; used = used }
+        subst (λ k. LooksUp moment k tile old new) (sym (kind ∙ ap (λ ts. cond (has_tile ts tile) Again First) shown)) (elim (has_tile old.shown tile) as (λ b. has_tile old.shown tile ≡ b → LooksUp moment (cond b Again First) tile old new) [
+          | true ↦ λ is. record { rested = rested.session.client; rests = rests.unlocks; finds = finds; kept = λ same. absurd (again_made same); answer = (is, absent); ready = ready_none now Again none new refl again_differs has leaves; some = some; name = name; pages = pages; same = same; used = used }
+          | false ↦ λ is. record { rested = rested.session.client; rests = rests.unlocks; finds = finds; kept = λ same. absurd (first_made same); answer = is; ready = ready_none now First none new refl first_differs has leaves; some = some; name = name; pages = pages; same = same; used = used }
         ] refl)
 
+  session_looked : (old looked : Cached G) (ready : Seen) → ChangesEntries old looked → record looked.session { client = ready } ≡ record old.session { client = ready }
+  session_looked old looked ready same = ap (λ (c : Cached G). record c.session { client = ready }) same
+
+  steps_kept : (now : ℕ) (tile : Tile) (old looked : Cached G) → LooksUp now Kept tile old looked → ShowsInSteps now tile Kept old (record looked { counts = counted Kept looked.counts })
+  steps_kept now tile old looked looks =
+      let finds = looks.finds in
+      record {
+        ready = looked.session.client;
+        looks = record { rested = looks.rested; rests = looks.rests; looks = (finds.piece, finds.locks) };
+        piece = part_after_lock lock.Held finds.piece;
+        shows = (finds.locks.found ∙ ap (λ b. Some (record finds.piece { locked = b })) finds.was_free, session_looked old looked looked.session.client looks.same);
+        entries = finds.entries;
+      }
+
+  -- a look-up and what was freed after it, where the tile was not kept
+  looks_made : (now : ℕ) (told : Shown) (tile : Tile) (rested ready : Seen) (old looked : Cached G) → (told ≡ Kept → ⊥) → FindsEntry now told tile rested old looked → FreesFirst now told looked.entries looked.session.client ready
+      → LooksFor now old.most tile told (unlocked old.entries) rested ready × (others_of told looked.entries ≡ left_entries old.most tile (unlocked old.entries))
+  looks_made now Kept tile rested ready old looked made finds frees = absurd (made refl)
+  looks_made now Rebuilt tile rested ready old looked made finds frees =
+      ((finds.piece, looked.session.client, finds.locks, frees (tile, finds.piece) (left_entries old.most tile (unlocked old.entries)) finds.entries), ap (drop 1) finds.entries)
+  looks_made now First tile rested ready old looked made finds frees = ((finds.none, rw (← frees) at finds.frees), finds.entries)
+  looks_made now Again tile rested ready old looked made finds frees = ((finds.none, rw (← frees) at finds.frees), finds.entries)
+
+  shows_made : (told : Shown) (tile : Tile) (size : ℕ) (piece : Part) (entries : List Entry) (old new : Session G) → (told ≡ Kept → ⊥) → ComesWritten size piece old new → ShowsPiece told tile size piece entries old new
+  shows_made Kept tile size piece entries old new made comes = absurd (made refl)
+  shows_made Rebuilt tile size piece entries old new made comes = comes
+  shows_made First tile size piece entries old new made comes = comes
+  shows_made Again tile size piece entries old new made comes = comes
+
+  steps_made : (now : ℕ) (told : Shown) (size : ℕ) (tile : Tile) (old looked added new : Cached G) → (told ≡ Kept → ⊥) → LooksUp now told tile old looked → AddsInSteps now told tile size looked added → added.tile_bytes ≡ size → Writes added new → ShowsInSteps now tile told old new
+  steps_made now told size tile old looked added new made looks adds bytes writes =
+      let ready = looks_made now told tile looks.rested adds.ready old looked made looks.finds adds.frees in
+      let wrote = writes.wrote (tile, adds.piece) (others_of told looked.entries) adds.entries in
+      let size_is : new.tile_bytes ≡ size = ap (λ (c : Cached G). c.tile_bytes) writes.same ∙ bytes in
+      record {
+        ready = adds.ready;
+        looks = record { rested = looks.rested; rests = looks.rests; looks = ready.0 };
+        piece = adds.piece;
+        shows = rw size_is (shows_made told tile size adds.piece (unlocked old.entries) (record old.session { client = adds.ready }) new.session made (record {
+          pages = adds.pages;
+          wants = adds.wants;
+          allocated = added.session;
+          counted = subst (λ (s : Session G). AllocatesCounted adds.pages adds.piece s added.session) (session_looked old looked adds.ready looks.same) adds.counted;
+          fresh = adds.fresh;
+          bytes = wrote.0;
+          written = ap (λ (c : Cached G). c.session) writes.same ∙ ap (λ (client : Seen). record added.session { client = client }) wrote.1;
+        }));
+        entries = ap (λ (c : Cached G). c.entries) writes.same ∙ (adds.entries ∙ ap (λ es. (tile, adds.piece) ∷ es) ready.1);
+      }
+
   -- a get of a tile that was kept
-  pub got_kept : (tile : Tile) (old looked : Cached G) → LooksUp Kept tile old looked → Gets tile Kept old (record looked { counts = counted Kept looked.counts })
-  got_kept tile old looked looks =
+  pub got_kept : (now : ℕ) (tile : Tile) (old looked : Cached G) → LooksUp now Kept tile old looked → Gets now tile Kept old (record looked { counts = counted Kept looked.counts })
+  got_kept now tile old looked looks =
       let tiles : tiles_of looked ≡ tile ∷ left old.most tile (tiles_of old) = ap keys_of looks.ready.entries ∙ ap (λ ts. tile ∷ ts) looks.ready.left in
       let shown : looked.shown ≡ old.shown = ap (λ (c : Cached G). c.shown) looks.same in
       let counts : counted Kept looked.counts ≡ counted Kept old.counts = ap (counted Kept) (ap (λ (c : Cached G). c.counts) looks.same) in
       let keeps = keeps_changed old looked looks.same looks.name in
       let is : (other : Tile) → has_tile looked.shown other ≡ (is_same tile other || has_tile old.shown other) = λ other. ap (λ ts. has_tile ts other) shown ∙ sym (shown_already tile other old.shown looks.ready.shown) in
       record {
+        steps = steps_kept now tile old looked looks;
+        kept = λ is.
+            let kept = looks.kept is in
+            record { piece = kept.piece; found = kept.found; shown = kept.shown; others = kept.others; entries = kept.entries; run = kept.run; bytes = kept.bytes };
         answer = looks.answer;
         tiles = tiles;
         shown = is;
@@ -213,54 +344,6 @@ module _ {G : Type 0} where
   ready_made First tile old looked made ready = ready
   ready_made Again tile old looked made ready = ready
 
-  -- a get of a tile that was made
-  pub got_made : (told : Shown) (size : ℕ) (tile : Tile) (old looked made : Cached G) → (told ≡ Kept → ⊥) → LooksUp told tile old looked → Adds told tile size looked made → Gets tile told old made
-  got_made told size tile old looked made new looks adds =
-      let ready = ready_made told tile old looked new looks.ready in
-      let tiles : tiles_of made ≡ tile ∷ left old.most tile (tiles_of old) = ap keys_of adds.entries ∙ ap (λ ts. tile ∷ ts) ready.left in
-      let shown : looked.shown ≡ old.shown = ap (λ (c : Cached G). c.shown) looks.same in
-      let counts : made.counts ≡ counted told old.counts = adds.counts ∙ ap (λ (c : Cached G). counted told c.counts) looks.same in
-      let keeps = keeps_on old looked made (keeps_changed old looked looks.same looks.name) adds.keeps in
-      let is : (other : Tile) → has_tile made.shown other ≡ (is_same tile other || has_tile old.shown other) = λ other. adds.shown other ∙ ap (λ ts. is_same tile other || has_tile ts other) shown in
-      let answer = answer_on told tile old looked made new adds.gone looks.answer in
-      let granted : granted_pages looked.session.client (pages_for size) ≡ granted_pages old.session.client (pages_for size) = ap (max (pages_for size)) looks.name.standard in
-      record {
-        answer = answer;
-        tiles = tiles;
-        shown = is;
-        counts = counts;
-        asked = λ asked stands. stands_more asked tile told old made looks.some answer tiles is counts keeps.most stands;
-        pages = rw adds.bytes (omega (arith, looks.pages, adds.pages, granted));
-        keeps = keeps;
-        failed = adds.failed ∙ ap (λ (c : Cached G). c.failed) looks.same;
-      }
-
-  -- a get that is out of memory
-  pub got_none : (told : Shown) (size : ℕ) (tile : Tile) (old looked new : Cached G) → (told ≡ Kept → ⊥) → LooksUp told tile old looked → AddsNone told size looked new → Fails tile old new
-  got_none told size tile old looked new made looks none =
-      let ready = ready_made told tile old looked made looks.ready in
-      let granted : granted_pages looked.session.client (pages_for size) ≡ granted_pages old.session.client (pages_for size) = ap (max (pages_for size)) looks.name.standard in
-      record {
-        tiles = ap keys_of none.entries ∙ ready.left;
-        shown = λ other. none.shown other ∙ ap (λ (c : Cached G). has_tile c.shown other) looks.same;
-        counts = none.counts ∙ ap (λ (c : Cached G). c.counts) looks.same;
-        pages = rw none.bytes (omega (arith, looks.pages, none.pages, granted));
-        keeps = keeps_on old looked new (keeps_changed old looked looks.same looks.name) none.keeps;
-        failed = none.failed;
-      }
-
-  -- what is lent of a tile that was kept
-  pub lent_kept : (tile_of : Tile → List ℕ) (size : ℕ) (tile : Tile) (old looked : Cached G) → LooksUp Kept tile old looked → IsUsedWith tile_of size looked → Lent tile (tile_of tile) looked
-  lent_kept tile_of size tile old looked looks used =
-      let shown = looks.ready in
-      record {
-        piece = shown.piece;
-        others = shown.others;
-        entries = shown.entries;
-        locked = shown.locked;
-        front = sym (All-head (λ (e : Entry). HasBytes looked.session.client looked.tile_bytes (tile_of e.0) e.1) (tile, shown.piece) shown.others (rw shown.entries at used.tiles) shown.there);
-      }
-
   -- what a made tile adds, after it was written
   pub adds_written : (told : Shown) (tile : Tile) (size : ℕ) (old added new : Cached G) → Adds told tile size old added → Writes added new → Adds told tile size old new
   adds_written told tile size old added new adds writes = record {
@@ -280,6 +363,66 @@ module _ {G : Type 0} where
     });
     failed = ap (λ (c : Cached G). c.failed) writes.same ∙ adds.failed;
   }
+
+  -- a get of a tile that was made
+  pub got_made : (now : ℕ) (told : Shown) (size : ℕ) (tile : Tile) (old looked added made : Cached G) → (told ≡ Kept → ⊥) → LooksUp now told tile old looked → Adds told tile size looked added → AddsInSteps now told tile size looked added → Writes added made → Gets now tile told old made
+  got_made now told size tile old looked added made new looks added_so steps writes =
+      let adds = adds_written told tile size looked added made added_so writes in
+      let ready = ready_made told tile old looked new looks.ready in
+      let tiles : tiles_of made ≡ tile ∷ left old.most tile (tiles_of old) = ap keys_of adds.entries ∙ ap (λ ts. tile ∷ ts) ready.left in
+      let shown : looked.shown ≡ old.shown = ap (λ (c : Cached G). c.shown) looks.same in
+      let counts : made.counts ≡ counted told old.counts = adds.counts ∙ ap (λ (c : Cached G). counted told c.counts) looks.same in
+      let keeps = keeps_on old looked made (keeps_changed old looked looks.same looks.name) adds.keeps in
+      let is : (other : Tile) → has_tile made.shown other ≡ (is_same tile other || has_tile old.shown other) = λ other. adds.shown other ∙ ap (λ ts. is_same tile other || has_tile ts other) shown in
+      let answer = answer_on told tile old looked made new adds.gone looks.answer in
+      let granted : granted_pages looked.session.client (pages_for size) ≡ granted_pages old.session.client (pages_for size) = ap (max (pages_for size)) looks.name.standard in
+      record {
+        steps = steps_made now told size tile old looked added made new looks steps added_so.bytes writes;
+        kept = λ is. absurd (new is);
+        answer = answer;
+        tiles = tiles;
+        shown = is;
+        counts = counts;
+        asked = λ asked stands. stands_more asked tile told old made looks.some answer tiles is counts keeps.most stands;
+        pages = rw adds.bytes (omega (arith, looks.pages, adds.pages, granted));
+        keeps = keeps;
+        failed = adds.failed ∙ ap (λ (c : Cached G). c.failed) looks.same;
+      }
+
+  -- a get that is out of memory
+  pub got_none : (now : ℕ) (told : Shown) (size : ℕ) (tile : Tile) (old looked new : Cached G) → (told ≡ Kept → ⊥) → LooksUp now told tile old looked → AddsNone now told size looked new → Fails now tile old new
+  got_none now told size tile old looked new made looks none =
+      let ready = ready_made told tile old looked made looks.ready in
+      let granted : granted_pages looked.session.client (pages_for size) ≡ granted_pages old.session.client (pages_for size) = ap (max (pages_for size)) looks.name.standard in
+      let found = looks_made now told tile looks.rested none.ready old looked made looks.finds none.frees in
+      record {
+        steps = record {
+          told = told;
+          made = made;
+          ready = none.ready;
+          looks = record { rested = looks.rested; rests = looks.rests; looks = found.0 };
+          none = rw none.bytes (subst (λ (s : Session G). NoneComes now size s new.session) (session_looked old looked none.ready looks.same) none.none);
+          entries = none.entries ∙ found.1;
+        };
+        tiles = ap keys_of none.entries ∙ ready.left;
+        shown = λ other. none.shown other ∙ ap (λ (c : Cached G). has_tile c.shown other) looks.same;
+        counts = none.counts ∙ ap (λ (c : Cached G). c.counts) looks.same;
+        pages = rw none.bytes (omega (arith, looks.pages, none.pages, granted));
+        keeps = keeps_on old looked new (keeps_changed old looked looks.same looks.name) none.keeps;
+        failed = none.failed;
+      }
+
+  -- what is lent of a tile that was kept
+  pub lent_kept : {now : ℕ} (tile_of : Tile → List ℕ) (size : ℕ) (tile : Tile) (old looked : Cached G) → LooksUp now Kept tile old looked → IsUsedWith tile_of size looked → Lent tile (tile_of tile) looked
+  lent_kept tile_of size tile old looked looks used =
+      let shown = looks.ready in
+      record {
+        piece = shown.piece;
+        others = shown.others;
+        entries = shown.entries;
+        locked = shown.locked;
+        front = sym (All-head (λ (e : Entry). HasBytes looked.session.client looked.tile_bytes (tile_of e.0) e.1) (tile, shown.piece) shown.others (rw shown.entries at used.tiles) shown.there);
+      }
 
   -- a count changes nothing of what is lent, and of the use
   pub lent_counted : (tile : Tile) (bytes : List ℕ) (cache : Cached G) (counts : Counts) → Lent tile bytes cache → Lent tile bytes (record cache { counts = counts })

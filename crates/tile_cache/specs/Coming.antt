@@ -11,6 +11,7 @@ use Rattle.client.specs.Granting.{Session, AllocatesCounted, granted_pages}
 use Rattle.tile_cache.specs.declared.counts.Shown.{Shown}
 use Rattle.tile_cache.specs.Recent.{is_same, has_tile}
 use Rattle.tile_cache.specs.Cached.{OwnsEntries}
+use Rattle.tile_cache.specs.Steps.{FreesFirst, NoneComes}
 use Rattle.tile_cache.specs.Getting.{others_of}
 use Rattle.tile_cache.specs.Accounts.{SameSegments}
 
@@ -23,9 +24,10 @@ abbrev pub GoneStay : Seen → Seen → Type 0
 GoneStay old new = (id : ℕ) → is_gone old id ≡ true → is_gone new id ≡ true
 
 module _ {G : Type 0} where
-  -- Where a tile is rebuilt its entry, the first, left, and its piece was freed. The others are owned, and stay.
-  pub record Clears (told : Shown) (old new : Session G) (entries_then entries_now : List (Tile × Part)) : Type 0 where
+  -- Where a tile is rebuilt its entry, the first, left, and its piece was freed at the moment. The others are owned, and stay.
+  pub record Clears (now : ℕ) (told : Shown) (old new : Session G) (entries_then entries_now : List (Tile × Part)) : Type 0 where
     pub entries : entries_now ≡ others_of told entries_then
+    pub frees : FreesFirst now told entries_then old.client new.client
     pub owned : OwnsEntries new.client (others_of told entries_then)
     pub stay : EntriesStay old.client new.client (others_of told entries_then)
     pub gone : new.client.gone ≡ old.client.gone
@@ -48,9 +50,10 @@ module _ {G : Type 0} where
     pub start : new.start ≡ old.start
     pub shown : (other : Tile) → has_tile shown_now other ≡ (is_same tile other || has_tile shown_then other)
 
-  -- out of memory: no entry came, and each piece stays
-  pub record ComesNone (size : ℕ) (old new : Session G) (entries_then entries_now : List (Tile × Part)) (shown_then shown_now : List Tile) : Type 0 where
+  -- out of memory: no entry came, no piece is left behind, and each piece stays
+  pub record ComesNone (now size : ℕ) (old new : Session G) (entries_then entries_now : List (Tile × Part)) (shown_then shown_now : List Tile) : Type 0 where
     pub entries : entries_now ≡ entries_then
+    pub none : NoneComes now size old new
     pub stay : EntriesStay old.client new.client entries_then
     pub gone : GoneStay old.client new.client
     pub name : KeepsName old.client new.client

@@ -1,22 +1,23 @@
 -- What a get does.
-use Rattle.std.specs.Prelude.{◌≡◌, ◌⊎◌, ℕ, ◌+◌, ◌-◌, ◌<◌, ◌≤◌, Bool, true, false, ◌||◌, List, [], ◌∷◌, ◌++◌, take, drop, length, Some, None}
+use Rattle.std.specs.Prelude.{◌≡◌, ℕ, ◌+◌, ◌-◌, ◌<◌, ◌≤◌, Bool, true, false, ◌||◌, List, [], ◌∷◌, ◌++◌, take, drop, length, All, Some, None}
 use Rattle.std.specs.Map.{keys_of, lookup}
 use Rattle.span_heap.specs.Heap.{size_of}
 use Rattle.segment.specs.declared.owner.Lock.{Lock}
 use Rattle.segment.specs.declared.owner.Lock.TheVariants as lock
 use Rattle.tile_source.specs.declared.tile.Tile.{Tile}
 use Rattle.client.specs.Seen.{Seen, is_gone}
-use Rattle.client.specs.Pieces.{Part, bytes_of, part_after_lock}
+use Rattle.client.specs.Pieces.{Part, SameBytes, IsNew, bytes_of, part_after_lock, written_run}
 use Rattle.units.specs.Sizes.{pages_for}
-use Rattle.client.specs.Calls.{KeepsName, AfterFree, UnlocksRun}
-use Rattle.client.specs.declared.answers.Unlocked.{Unlocked}
-use Rattle.client.specs.Granting.{granted_pages}
+use Rattle.client.specs.Sizes.{wanted}
+use Rattle.client.specs.Calls.{KeepsName, LocksPart}
+use Rattle.client.specs.Granting.{granted_pages, AllocatesCounted}
 use Rattle.tile_cache.specs.declared.counts.Shown.{Shown}
 use Rattle.tile_cache.specs.declared.counts.Shown.TheVariants.{Kept, First, Rebuilt, Again}
 use Rattle.tile_cache.specs.Recent.{is_same, has_tile, without}
 use Rattle.tile_cache.specs.Shown.{counted}
 use Rattle.tile_cache.specs.Asked.{StandsFor, Fits}
 use Rattle.tile_cache.specs.Cached.{Cached, IsUsedWith, HaveTiles, tiles_of, runs_of, AreFree}
+use Rattle.tile_cache.specs.Steps.{UnlocksFirst, FreesFirst, FreesLast, LocksFound, NoneComes, ShowsInSteps, FailsInSteps, unlocked, left_entries}
 
 -- what a get leaves of the other entries' tiles: where there is no room, the last one leaves
 abbrev pub left : ℕ → Tile → List Tile → List Tile
@@ -30,11 +31,6 @@ pages_of client = size_of client.heap.segments
 abbrev pub others_of : Shown → List (Tile × Part) → List (Tile × Part)
 others_of Rebuilt entries = drop 1 entries
 others_of other entries = entries
-
--- the pages of the first piece were unlocked at a moment, or nothing changed
-abbrev pub UnlocksFirst : ℕ → List (Tile × Part) → Seen → Seen → Type 0
-UnlocksFirst now [] old new = new ≡ old
-UnlocksFirst now (first ∷ others) old new = ((told : Unlocked) × UnlocksRun first.1.run now told old new) ⊎ (new ≡ old)
 
 module _ {G : Type 0} where
   -- the tile has an entry, and the segment of its piece is known to be gone afterwards, or is not
@@ -64,8 +60,21 @@ module _ {G : Type 0} where
     pub locked : piece.locked ≡ true
     pub front : bytes ≡ take cache.tile_bytes (bytes_of cache.session.client piece.run)
 
-  -- A get that answers. Its tile is now the first, and the others are left.
-  pub record Gets (tile : Tile) (told : Shown) (old new : Cached G) : Type 0 where
+  -- what is in front has the pages of the piece that the tile's entry had, with the bytes that it had
+  pub record KeepsPiece (tile : Tile) (old new : Cached G) : Type 0 where
+    pub piece : Part
+    pub found : lookup (is_same tile) old.entries ≡ Some piece
+    pub shown : Part
+    pub others : List (Tile × Part)
+    pub entries : new.entries ≡ (tile, shown) ∷ others
+    pub run : shown.run ≡ piece.run
+    pub bytes : bytes_of new.session.client piece.run ≡ bytes_of old.session.client piece.run
+
+  -- A get at a moment that answers. The piece shown before was unlocked at it; the tile is now the first, and the others are left; and no piece
+  -- is left behind. Kept: what is shown is the piece that its entry had, with the bytes that it had.
+  pub record Gets (now : ℕ) (tile : Tile) (told : Shown) (old new : Cached G) : Type 0 where
+    pub steps : ShowsInSteps now tile told old new
+    pub kept : told ≡ Kept → KeepsPiece tile old new
     pub answer : Answers told tile old new
     pub tiles : tiles_of new ≡ tile ∷ left old.most tile (tiles_of old)
     pub shown : (other : Tile) → has_tile new.shown other ≡ (is_same tile other || has_tile old.shown other)
@@ -75,8 +84,10 @@ module _ {G : Type 0} where
     pub keeps : KeepsMaking old new
     pub failed : new.failed ≡ old.failed
 
-  -- A get that is out of memory. The tile has no entry, and the others are as a get leaves them.
-  pub record Fails (tile : Tile) (old new : Cached G) : Type 0 where
+  -- A get at a moment that is out of memory. The piece shown before was unlocked at it; the tile has no entry, and the others are as a get
+  -- leaves them; and no piece is left behind.
+  pub record Fails (now : ℕ) (tile : Tile) (old new : Cached G) : Type 0 where
+    pub steps : FailsInSteps now tile old new
     pub tiles : tiles_of new ≡ left old.most tile (tiles_of old)
     pub shown : (other : Tile) → has_tile new.shown other ≡ has_tile old.shown other
     pub counts : new.counts ≡ old.counts
@@ -92,9 +103,12 @@ module _ {G : Type 0} where
   abbrev pub KeepsUse : Cached G → Cached G → Type 0
   KeepsUse old new = (tile_of : Tile → List ℕ) (size : ℕ) → IsUsedWith tile_of size old → IsUsedWith tile_of size new
 
-  -- the first piece was unlocked at a moment, where it was locked; the cache stands for the requests that it stood for
+  -- The first piece was unlocked at a moment, where it was locked, and no other changed. Each has the bytes that it had, and the cache stands
+  -- for the requests that it stood for.
   pub record Rests (now : ℕ) (old new : Cached G) : Type 0 where
     pub unlocks : UnlocksFirst now old.entries old.session.client new.session.client
+    pub entries : new.entries ≡ unlocked old.entries
+    pub bytes : All (λ (e : Tile × Part). SameBytes e.1.run old.session.client new.session.client) old.entries
     pub free : AreFree new.entries
     pub tiles : tiles_of new ≡ tiles_of old
     pub runs : runs_of new.entries ≡ runs_of old.entries
@@ -108,10 +122,14 @@ module _ {G : Type 0} where
   pub record LocksEntry (tile : Tile) (told : Lock) (old new : Cached G) : Type 0 where
     pub piece : Part
     pub found : lookup (is_same tile) old.entries ≡ Some piece
+    pub locks : LocksPart piece told old.session.client new.session.client
+    pub there : told ≡ lock.Held → is_gone old.session.client piece.run.segment ≡ false
+    pub bytes : told ≡ lock.Held → bytes_of new.session.client piece.run ≡ bytes_of old.session.client piece.run
     pub shown : has_tile old.shown tile ≡ true
     pub others : List (Tile × Part)
     pub entries : new.entries ≡ (tile, part_after_lock told piece) ∷ others
     pub was_free : piece.locked ≡ false
+    pub rest : others ≡ left_entries old.most tile old.entries
     pub left : keys_of others ≡ left old.most tile (tiles_of old)
     pub few : length others < old.most
     pub free : AreFree others
@@ -132,7 +150,7 @@ module _ {G : Type 0} where
   -- the last entry left where there was no room, and its piece was freed at the moment
   pub record MakesRoom (now : ℕ) (old new : Cached G) : Type 0 where
     pub left : new.entries ≡ take (old.most - 1) old.entries
-    pub freed : (last : Tile × Part) → old.entries ≡ new.entries ++ last ∷ [] → (told : Bool) × AfterFree told last.1 now old.session.client new.session.client
+    pub frees : FreesLast now old.entries new.entries old.session.client new.session.client
     pub gone : new.session.client.gone ≡ old.session.client.gone
     pub name : KeepsName old.session.client new.session.client
     pub pages : pages_of new.session.client ≤ pages_of old.session.client
@@ -170,8 +188,31 @@ module _ {G : Type 0} where
   StandsReady Kept tile old new = IsShown tile old new
   StandsReady other tile old new = IsReady other tile old new
 
-  -- A tile was looked up: it is shown, or all is ready to make it.
-  pub record LooksUp (told : Shown) (tile : Tile) (old new : Cached G) : Type 0 where
+  -- the tile's entry came to the front of those that are left, and the lock of its piece gave this answer
+  pub record BringsEntry (tile : Tile) (told : Lock) (rested : Seen) (old new : Cached G) : Type 0 where
+    pub piece : Part
+    pub was_free : piece.locked ≡ false
+    pub locks : LocksFound tile told piece (unlocked old.entries) rested new.session.client
+    pub entries : new.entries ≡ (tile, part_after_lock told piece) ∷ left_entries old.most tile (unlocked old.entries)
+
+  -- the tile has no entry, and the entries are those that are left
+  pub record LeavesRoom (now : ℕ) (tile : Tile) (rested : Seen) (old new : Cached G) : Type 0 where
+    pub none : lookup (is_same tile) (unlocked old.entries) ≡ None
+    pub frees : FreesLast now (unlocked old.entries) (left_entries old.most tile (unlocked old.entries)) rested new.session.client
+    pub entries : new.entries ≡ left_entries old.most tile (unlocked old.entries)
+
+  -- what a look-up does after the rest, by its answer
+  abbrev pub FindsEntry : ℕ → Shown → Tile → Seen → Cached G → Cached G → Type 0
+  FindsEntry now Kept tile rested old new = BringsEntry tile lock.Held rested old new
+  FindsEntry now Rebuilt tile rested old new = BringsEntry tile lock.Gone rested old new
+  FindsEntry now other tile rested old new = LeavesRoom now tile rested old new
+
+  -- A tile was looked up, after the piece that was shown was unlocked at a moment: it is shown, or all is ready to make it.
+  pub record LooksUp (now : ℕ) (told : Shown) (tile : Tile) (old new : Cached G) : Type 0 where
+    pub rested : Seen
+    pub rests : UnlocksFirst now old.entries old.session.client rested
+    pub finds : FindsEntry now told tile rested old new
+    pub kept : told ≡ Kept → KeepsPiece tile old new
     pub answer : Answers told tile old new
     pub ready : StandsReady told tile old new
     pub some : 1 ≤ old.most
@@ -197,8 +238,22 @@ module _ {G : Type 0} where
     pub keeps : KeepsMaking old new
     pub failed : new.failed ≡ old.failed
 
-  -- out of memory, no entry came
-  pub record AddsNone (told : Shown) (size : ℕ) (old new : Cached G) : Type 0 where
+  -- where a tile is rebuilt its dead piece, the first, was freed at the moment; and then the client allocated the piece of the new entry
+  pub record AddsInSteps (now : ℕ) (told : Shown) (tile : Tile) (size : ℕ) (old new : Cached G) : Type 0 where
+    pub ready : Seen
+    pub frees : FreesFirst now told old.entries old.session.client ready
+    pub piece : Part
+    pub pages : ℕ
+    pub wants : wanted size ≡ Some pages
+    pub counted : AllocatesCounted pages piece (record old.session { client = ready }) new.session
+    pub fresh : IsNew pages ready new.session.client piece
+    pub entries : new.entries ≡ (tile, piece) ∷ others_of told old.entries
+
+  -- Out of memory, no entry came. Where a tile is rebuilt its dead piece, the first, was freed at the moment; and no piece is left behind.
+  pub record AddsNone (now : ℕ) (told : Shown) (size : ℕ) (old new : Cached G) : Type 0 where
+    pub ready : Seen
+    pub frees : FreesFirst now told old.entries old.session.client ready
+    pub none : NoneComes now size (record old.session { client = ready }) new.session
     pub entries : new.entries ≡ others_of told old.entries
     pub shown : (other : Tile) → has_tile new.shown other ≡ has_tile old.shown other
     pub counts : new.counts ≡ old.counts
@@ -211,8 +266,10 @@ module _ {G : Type 0} where
   abbrev pub IsFirst : Tile → Cached G → Type 0
   IsFirst tile cache = (piece : Part) × (others : List (Tile × Part)) × (cache.entries ≡ (tile, piece) ∷ others) × (piece.locked ≡ true)
 
-  -- only bytes of the client were written
+  -- only bytes of the first piece were written
   pub record Writes (old new : Cached G) : Type 0 where
+    pub wrote : (first : Tile × Part) (others : List (Tile × Part)) → old.entries ≡ first ∷ others
+        → (bytes : List ℕ) × (new.session.client ≡ written_run old.session.client first.1.run bytes)
     pub heap : new.session.client.heap ≡ old.session.client.heap
     pub gone : new.session.client.gone ≡ old.session.client.gone
     pub name : KeepsName old.session.client new.session.client

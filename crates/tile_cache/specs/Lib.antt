@@ -3,6 +3,7 @@ pub mod Shown
 pub mod Cached
 pub mod Sound
 pub mod Asked
+pub mod Steps
 pub mod Getting
 pub mod Coming
 pub mod Ended

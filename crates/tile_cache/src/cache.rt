@@ -14,7 +14,7 @@ ghost use Rattle.tile_cache.specs.declared.counts.Shown.TheVariants as kind;
 ghost use Rattle.tile_cache.specs.Shown.{no_counts, counted, made_after};
 ghost use Rattle.tile_cache.specs.Cached.{IsUsedWith, AreFree, HaveTiles};
 ghost use Rattle.tile_cache.specs.Asked.{StandsFor};
-ghost use Rattle.tile_cache.specs.Getting.{Gets, Fails, Lent, Rests, LocksEntry, HasNone, MakesRoom, LooksUp, CanMake, Adds, AddsNone, KeepsBytes, IsFirst, Writes};
+ghost use Rattle.tile_cache.specs.Getting.{Gets, Fails, Lent, Rests, LocksEntry, HasNone, MakesRoom, LooksUp, CanMake, Adds, AddsInSteps, AddsNone, KeepsBytes, IsFirst, Writes};
 ghost use Rattle.tile_cache.specs.Ended.{Closes};
 ghost use Rattle.tile_cache.specs.Bound.{EndsBounded};
 
@@ -176,8 +176,8 @@ impl<G: Granter + Drop> Cache<G> {
         ensures* after { sem 𝓛 (follows_so
             (the_row G.row G.Granter) (the_row G.row G.Granter) self.entry.ghost_name none (λ _ _. ⊤)
             (λ new. MatchResult result
-            (λ r. Gets tile r.0 self.old new × Lent tile r.1.now new)
-            (λ _. Fails tile self.old new)
+            (λ r. Gets now tile r.0 self.old new × Lent tile r.1.now new)
+            (λ _. Fails now tile self.old new)
             × IsUsedWith (M.tile_of maker.old) (M.tile_length maker.old) new)) }
         ensures bytes { IfOk result (λ r. r.1.now ≡ M.tile_of maker.old tile) }
         ensures made { MatchResult result
@@ -205,9 +205,9 @@ impl<G: Granter + Drop> Cache<G> {
         requires used { IsUsedWith (M.tile_of maker.old) (M.tile_length maker.old) self.old }
         requires small { size_of self.old.session.client.heap.segments + MOST_PAGES < 2 ^ 32 }
         requires moment { IsMoment now }
-        ensures gets { IfOk result (λ told. Gets tile told self.old self.new) }
+        ensures gets { IfOk result (λ told. Gets now tile told self.old self.new) }
         ensures lent { OnOk result (Lent tile (M.tile_of maker.old tile) self.new) }
-        ensures fails { OnErr result (Fails tile self.old self.new) }
+        ensures fails { OnErr result (Fails now tile self.old self.new) }
         ensures used { IsUsedWith (M.tile_of maker.old) (M.tile_length maker.old) self.new }
         ensures made { MatchResult result
             (λ told. M.made maker.new ≡ made_after told (M.made maker.old))
@@ -230,7 +230,7 @@ impl<G: Granter + Drop> Cache<G> {
     /// there is room for one.
     fn look_up(&mut self, tile: Tile, now: u64) -> Shown
         requires moment { IsMoment now }
-        ensures { LooksUp result tile self.old self.new }
+        ensures { LooksUp now result tile self.old self.new }
     {
         self.rest(now);
         match self.lock_entry(tile) {
@@ -318,7 +318,8 @@ impl<G: Granter + Drop> Cache<G> {
         requires moment { IsMoment now }
         requires can { CanMake shown tile self.old }
         ensures adds { OnOk result (Adds shown tile size self.old self.new) }
-        ensures none { OnErr result (AddsNone shown size self.old self.new) }
+        ensures steps { OnOk result (AddsInSteps now shown tile size self.old self.new) }
+        ensures none { OnErr result (AddsNone now shown size self.old self.new) }
         ensures bytes { OnOk result (KeepsBytes size self.old self.new) }
         ensures used { (tile_of : Square → List ℕ) → IsUsedWith tile_of size self.old
             → OnErr result (IsUsedWith tile_of size self.new) }

@@ -31,7 +31,8 @@ pub(crate) fn clear<G: Granter + Drop>(
     requires moment { IsMoment now }
     requires owned { OwnsEntries granted.old.client entries.old.entries }
     requires free { AreFree entries.old.entries }
-    ensures clears { Clears shown granted.old granted.new entries.old.entries entries.new.entries }
+    ensures clears { Clears now shown granted.old granted.new entries.old.entries
+        entries.new.entries }
     ensures cap { entries.new.cap ≡ entries.old.cap }
 {
     let Shown::Rebuilt = shown else {
@@ -63,7 +64,7 @@ pub(crate) fn come<G: Granter + Drop, H: Threads + Wait + Sync>(
     requires room { length entries.old.entries < entries.old.cap }
     ensures comes { OnOk result (Comes tile size granted.old granted.new entries.old.entries
         entries.new.entries shown.old.keys shown.new.keys) }
-    ensures none { OnErr result (ComesNone size granted.old granted.new entries.old.entries
+    ensures none { OnErr result (ComesNone now size granted.old granted.new entries.old.entries
         entries.new.entries shown.old.keys shown.new.keys) }
     ensures cap { entries.new.cap ≡ entries.old.cap }
 {

@@ -12,4 +12,5 @@ returns-clause-bounded g c =
       counts = ap (λ (e : Ended). e.counts) end;
       grants = ap (λ (e : Ended). e.client.grants) end ∙ closed.end;
       gone = rw end closed.gone;
+      kept = rw end closed.kept;
     }) (rw end closed.kept) (omega (arith, c.len-tiles.ensures.len, c.len-tiles.ensures.fits)))

@@ -8,4 +8,4 @@ pub returns-in-Some-Gone : goal.returns-in-Some-Gone
 returns-in-Some-Gone g c = looked_gone c.args.tile c.args.self.now c.rest.new.self c.rest.ensures c.lock_entry.new.self (rw c.in-Some-Gone.field-0-is at c.in-Some-Gone.ensures)
 
 pub returns-in-None : goal.returns-in-None
-returns-in-None g c = looked_none c.args.tile c.args.self.now c.rest.new.self c.rest.ensures c.args.now c.lock_entry.new.self c.make_room.new.self c.kind_of.result c.in-None.ensures c.make_room.ensures c.kind_of.ensures
+returns-in-None g c = looked_none c.args.tile c.args.self.now c.rest.new.self c.rest.ensures c.lock_entry.new.self c.make_room.new.self c.kind_of.result c.in-None.ensures c.make_room.ensures c.kind_of.ensures

@@ -13,8 +13,8 @@ unlock-requires-clause-owned g c =
 
 pub invariant_of-self : goal.invariant_of-self
 invariant_of-self g c =
-    (rest_done _ c.self.inside.entries.cap c.self.invariant c.unlock.new.self c.unlock.ensures.same (c.in-Some.tile.now, c.in-Some.piece.now) c.in-Some-peek_mut.piece.now c.unlock.new.piece c.args.now c.unlock.result (sym c.in-Some.ensures) c.in-Some-peek_mut.ensures.value c.unlock.ensures.unlocks c.unlock.ensures.leaves c.unlock.ensures.piece).1
+    (rest_done _ c.self.inside.entries.cap c.self.invariant c.unlock.new.self c.unlock.ensures.same (c.in-Some.tile.now, c.in-Some.piece.now) c.in-Some-peek_mut.piece.now c.unlock.new.piece c.args.now c.unlock.result (sym c.in-Some.ensures) (sym c.if-not-locked.ensures) c.in-Some-peek_mut.ensures.value c.unlock.ensures.unlocks c.unlock.ensures.leaves c.unlock.ensures.piece).1
 
 pub returns : goal.returns
 returns g c =
-    rw (← c.self.view_is) (rest_done _ c.self.inside.entries.cap c.self.invariant c.unlock.new.self c.unlock.ensures.same (c.in-Some.tile.now, c.in-Some.piece.now) c.in-Some-peek_mut.piece.now c.unlock.new.piece c.args.now c.unlock.result (sym c.in-Some.ensures) c.in-Some-peek_mut.ensures.value c.unlock.ensures.unlocks c.unlock.ensures.leaves c.unlock.ensures.piece).0
+    rw (← c.self.view_is) (rest_done _ c.self.inside.entries.cap c.self.invariant c.unlock.new.self c.unlock.ensures.same (c.in-Some.tile.now, c.in-Some.piece.now) c.in-Some-peek_mut.piece.now c.unlock.new.piece c.args.now c.unlock.result (sym c.in-Some.ensures) (sym c.if-not-locked.ensures) c.in-Some-peek_mut.ensures.value c.unlock.ensures.unlocks c.unlock.ensures.leaves c.unlock.ensures.piece).0

@@ -1,11 +1,11 @@
 use Rattle.std.proofs.Common.{refl, sym, ◌∙◌}
 use Rattle.std.proofs.lemmas.Result.{err_from_is_err_and}
 use Rattle.tile_cache.specs.Getting.{others_of}
-use Rattle.tile_cache.proofs.Gets.{got_kept, got_made, got_none, lent_kept, lent_counted, used_counted, adds_written, made_is}
+use Rattle.tile_cache.proofs.Gets.{got_kept, got_made, got_none, lent_kept, lent_counted, used_counted, made_is}
 use Rattle.tile_cache.proofs.cache.Cache.show.Goals as goal
 
 pub returns-in-Kept-clause-gets : goal.returns-in-Kept-clause-gets
-returns-in-Kept-clause-gets g c = rw (c.count.ensures, c.in-Kept.is) (got_kept c.args.tile c.args.self.now c.look_up-shown.new.self c.in-Kept.ensures)
+returns-in-Kept-clause-gets g c = rw (c.count.ensures, c.in-Kept.is) (got_kept c.args.now c.args.tile c.args.self.now c.look_up-shown.new.self c.in-Kept.ensures)
 
 pub returns-in-Kept-clause-lent : goal.returns-in-Kept-clause-lent
 returns-in-Kept-clause-lent g c =
@@ -28,7 +28,7 @@ returns-in_err-add g c =
     rw p.1 (record {
       gets = tt;
       lent = tt;
-      fails = got_none c.look_up-shown.result c.length.result c.args.tile c.args.self.now c.look_up-shown.new.self c.add.new.self c.in_default.not-Kept c.look_up-shown.ensures c.in_err-add.ensures.none;
+      fails = got_none c.args.now c.look_up-shown.result c.length.result c.args.tile c.args.self.now c.look_up-shown.new.self c.add.new.self c.in_default.not-Kept c.look_up-shown.ensures c.in_err-add.ensures.none;
       used = used tile_of (c.look_up-shown.ensures.used tile_of size c.requires.used);
       made = refl;
       same_tiles = refl;
@@ -51,7 +51,7 @@ fill-requires g c =
 
 pub returns : goal.returns
 returns g c = record {
-  gets = got_made c.look_up-shown.result c.length.result c.args.tile c.args.self.now c.look_up-shown.new.self c.fill.new.self c.in_default.not-Kept c.look_up-shown.ensures (adds_written c.look_up-shown.result c.args.tile c.length.result c.look_up-shown.new.self c.add.new.self c.fill.new.self c.in_ok-add.ensures.adds c.fill.ensures.writes);
+  gets = got_made c.args.now c.look_up-shown.result c.length.result c.args.tile c.args.self.now c.look_up-shown.new.self c.add.new.self c.fill.new.self c.in_default.not-Kept c.look_up-shown.ensures c.in_ok-add.ensures.adds c.in_ok-add.ensures.steps c.fill.ensures.writes;
   lent = c.fill.ensures.lent;
   fails = tt;
   used = c.fill.ensures.used;
