@@ -35,9 +35,9 @@ use units::NoMemory;
 /// and its runs leave at once, its side is kept among the gone ones until it is told (`untold`), and
 /// its pieces stay owned and are dead. No two pieces share a page.
 ///
-/// Only `new`, `adopt` and `runs` take memory. No call but `sweep`, `take_free` and `runs` goes along
-/// all segments: one is found at once where the numbers of the segments rise by one, by halves where
-/// they rise, and else by a walk.
+/// Only `new`, `adopt` and `runs` take memory. A segment is found at once where the numbers of the
+/// segments rise by one, by halves where they rise, and else by a walk. So only `sweep`, `take_free`
+/// and `runs` go along all segments, and a call on a dead piece, whose segment is in none of them.
 #[derive(Drop)]
 pub struct Client {
     pub(crate) number: u32,
