@@ -167,14 +167,14 @@ told_found pages (id ∷ lost) found old new (run, carved, between, picked, numb
     told_on old between new (told_on old carved between (told_carved run pages old carved carves) (told_locked _ Gone carved between locks)) (told_found pages lost found between new finds)
 
 -- after a search the untold ones are told, and then a segment comes
-pub asked : {G : Type 0} (granted : ℕ → Owned → G → G → Type 0) (took : ℕ → ℕ → Option (List ℕ) → G → G → Type 0) (pages : ℕ) (part : Part) (old new missed released : Seen) (first between last : G)
+pub asked : {G : Type 0} (granted : ℕ → ℕ → Owned → G → G → Type 0) (took : ℕ → ℕ → Option (List ℕ) → G → G → Type 0) (now pages : ℕ) (part : Part) (old new missed released : Seen) (first between last : G)
     → KeepsTold old missed → released.number ≡ missed.number → TookAll took missed.number (gone_returns (drop missed.told released.gone)) first between
-    → CameFrom granted released.number pages part released new between last
-    → TookAll took old.number (gone_returns (drop old.told released.gone)) first between × CameFrom granted old.number pages part released new between last
-asked granted took pages part old new missed released first between last kept same told came = (
+    → CameFrom granted released.number now pages part released new between last
+    → TookAll took old.number (gone_returns (drop old.told released.gone)) first between × CameFrom granted old.number now pages part released new between last
+asked granted took now pages part old new missed released first between last kept same told came = (
   subst (λ (n : ℕ). TookAll took old.number (gone_returns (drop n released.gone)) first between) kept.told
       (subst (λ (n : ℕ). TookAll took n (gone_returns (drop missed.told released.gone)) first between) kept.number told),
-  subst (λ (n : ℕ). CameFrom granted n pages part released new between last) (same ∙ kept.number) came,
+  subst (λ (n : ℕ). CameFrom granted n now pages part released new between last) (same ∙ kept.number) came,
 )
 
 -- the untold ones stay untold where segments are given up

@@ -38,20 +38,20 @@ gone_returns sides = map (λ (side : Owned). (side.id, None)) sides
 abbrev pub untold_returns : Seen → List Return
 untold_returns seen = gone_returns (drop seen.told seen.gone)
 
--- the granter granted this client the segment whose front is the piece
-abbrev pub CameFrom : {G : Type 0} → (ℕ → Owned → G → G → Type 0) → ℕ → ℕ → Part → Seen → Seen → G → G → Type 0
-CameFrom granted client pages part before after old new = (side : Owned) × Adopts side pages part before after × granted client side old new
+-- the granter granted this client, at the moment, the segment whose front is the piece
+abbrev pub CameFrom : {G : Type 0} → (ℕ → ℕ → Owned → G → G → Type 0) → ℕ → ℕ → ℕ → Part → Seen → Seen → G → G → Type 0
+CameFrom granted client now pages part before after old new = (side : Owned) × Adopts side pages part before after × granted client now side old new
 
 -- no segment came: the granter granted none and took none back, or it granted one and took exactly that one back
-abbrev pub CameToNothing : {G : Type 0} → (ℕ → Owned → G → G → Type 0) → (ℕ → ℕ → Option (List ℕ) → G → G → Type 0) → (G → ℕ) → (G → ℕ) → ℕ → G → G → Type 0
-CameToNothing {G} granted took grants returns client old new =
+abbrev pub CameToNothing : {G : Type 0} → (ℕ → ℕ → Owned → G → G → Type 0) → (ℕ → ℕ → Option (List ℕ) → G → G → Type 0) → (G → ℕ) → (G → ℕ) → ℕ → ℕ → G → G → Type 0
+CameToNothing {G} granted took grants returns client now old new =
     ((grants new ≡ grants old) × (returns new ≡ returns old))
-    ⊎ ((side : Owned) × (between : G) × granted client side old between × took client side.id (Some side.bytes) between new)
+    ⊎ ((side : Owned) × (between : G) × granted client now side old between × took client side.id (Some side.bytes) between new)
 
--- An allocation asked the granter for nothing, or it told the gone sides that were not told, and then the granter granted it the segment whose
--- front is the piece.
-abbrev pub AskedFor : {G : Type 0} → (ℕ → Owned → G → G → Type 0) → (ℕ → ℕ → Option (List ℕ) → G → G → Type 0) → ℕ → Part → Session G → Session G → Type 0
-AskedFor {G} granted took pages part old new =
+-- An allocation asked the granter for nothing, or it told the gone sides that were not told, and then the granter granted it, at the moment, the
+-- segment whose front is the piece.
+abbrev pub AskedFor : {G : Type 0} → (ℕ → ℕ → Owned → G → G → Type 0) → (ℕ → ℕ → Option (List ℕ) → G → G → Type 0) → ℕ → ℕ → Part → Session G → Session G → Type 0
+AskedFor {G} granted took now pages part old new =
     (new.granter ≡ old.granter)
     ⊎ ((released : Seen) × (between : G) × TookAll took old.client.number (gone_returns (drop old.client.told released.gone)) old.granter between
-    × CameFrom granted old.client.number pages part released new.client between new.granter)
+    × CameFrom granted old.client.number now pages part released new.client between new.granter)

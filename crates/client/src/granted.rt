@@ -206,7 +206,7 @@ impl<G: Granter + Drop> Granted<G> {
         ensures grants { IfOk result (λ piece. (pages : ℕ) × (wanted bytes ≡ Some pages)
             × AllocatesCounted pages piece self.old self.new) }
         ensures asked { IfOk result (λ piece. (pages : ℕ) × (wanted bytes ≡ Some pages)
-            × AskedFor G.granted_to G.took_back pages piece self.old self.new) }
+            × AskedFor G.granted_to G.took_back now pages piece self.old self.new) }
         ensures out { IsOutOfMemory bytes result self.old self.new }
         ensures no_more { OnErr result (size_of self.new.client.heap.segments
             ≤ size_of self.old.client.heap.segments) }
@@ -239,10 +239,10 @@ impl<G: Granter + Drop> Granted<G> {
         requires moment { IsMoment now }
         ensures ok { IfOk result (λ piece. GrowsBy pages piece self.old.client self.new.client) }
         ensures counted { OnOk result (self.new.grants ≡ next_count self.old.grants) }
-        ensures granted { IfOk result (λ piece. CameFrom G.granted_to self.old.client.number pages
+        ensures granted { IfOk result (λ piece. CameFrom G.granted_to self.old.client.number now pages
             piece self.old.client self.new.client self.old.granter self.new.granter) }
         ensures nothing { OnErr result (CameToNothing G.granted_to G.took_back G.grants G.returns
-            self.old.client.number self.old.granter self.new.granter) }
+            self.old.client.number now self.old.granter self.new.granter) }
         ensures piece { IfOk result (λ piece. IsNew pages self.old.client self.new.client piece) }
         ensures same { OnErr result (self.new.client ≡ self.old.client) }
         ensures stay { AllStay self.old.client self.new.client }

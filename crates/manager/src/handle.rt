@@ -223,7 +223,7 @@ impl<'m, R: Returns, F: Fixed, G: Ledger, E: Ledger> Granter for Handle<'m, R, F
 
     ghost greatest = { λ h. h.greatest };
 
-    ghost granted_to = { λ _ _ _ _. Unit {0} };
+    ghost granted_to = { λ _ _ _ _ _. Unit {0} };
 
     ghost took_back = { λ _ _ _ _ _. Unit {0} };
 

@@ -103,7 +103,7 @@ impl<'w> Granter for Grants<'w> {
 
     ghost greatest = { λ g. g.greatest };
 
-    ghost granted_to = { λ _ _ _ _. Unit {0} };
+    ghost granted_to = { λ _ _ _ _ _. Unit {0} };
 
     ghost took_back = { λ _ _ _ _ _. Unit {0} };
 

@@ -22,8 +22,8 @@ pub trait Granter {
     /// The greatest number that it granted, or 0.
     ghost greatest: { Self → ℕ };
 
-    /// It granted this client this segment. Only `grant` tells so, whatever an implementation means by it.
-    ghost granted_to: { ℕ → Owned → Self → Self → Type 0 };
+    /// It granted this client, at this moment, this segment. Only `grant` tells so, whatever an implementation means by it.
+    ghost granted_to: { ℕ → ℕ → Owned → Self → Self → Type 0 };
 
     /// It took this number back from this client, with the block where one came. Only `give_back` tells so.
     ghost took_back: { ℕ → ℕ → Option (List ℕ) → Self → Self → Type 0 };
@@ -47,7 +47,7 @@ pub trait Granter {
         requires pages { (1 ≤ pages) × (pages ≤ MOST_PAGES) }
         requires moment { IsMoment now }
         ensures side { IfOk result (λ side. IsGranted pages side) }
-        ensures granted_to { IfOk result (λ side. granted_to client side self.old self.new) }
+        ensures granted_to { IfOk result (λ side. granted_to client now side self.old self.new) }
         ensures rises { IfOk result (λ side. greatest self.old < side.id) }
         ensures greatest { IfOk result (λ side. greatest self.new ≡ side.id) }
         ensures counted { OnOk result (grants self.new ≡ next_count (grants self.old)) }

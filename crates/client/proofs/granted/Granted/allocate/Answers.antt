@@ -145,7 +145,7 @@ returns-clause-asked g c =
     let told = told_found c.in-Some.pages c.in_default-find.ensures.finds.0 _ _ c.find.new.self c.in_default-find.ensures.finds.1 in
     let releases = c.release_purged.ensures.releases.2 in
     let same = ap (λ (s : Seen). s.number) releases.told ∙ releases.sweeps.name.number in
-    let both = asked g.G.Granter.granted_to g.G.Granter.took_back c.in-Some.pages c.in_ok-grow.field-0 c.self.inside.client c.grow.new.self.client c.find.new.self c.release_purged.new.self.client _ c.release_purged.new.self.granter c.grow.new.self.granter
+    let both = asked g.G.Granter.granted_to g.G.Granter.took_back c.args.now c.in-Some.pages c.in_ok-grow.field-0 c.self.inside.client c.grow.new.self.client c.find.new.self c.release_purged.new.self.client _ c.release_purged.new.self.granter c.grow.new.self.granter
     told same c.release_purged.ensures.took c.in_ok-grow.ensures.granted in
     rw (← c.self.view_is) (
       c.in-Some.pages,
