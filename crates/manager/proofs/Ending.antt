@@ -1,5 +1,5 @@
 -- What a reduction tells of its end.
-use Rattle.std.proofs.Common.{◌≡◌, ℕ, List, Bool, ◌||◌, nat_le, Option, Some, None, Result, Ok, Err, refl, sym, ap, ◌∙◌}
+use Rattle.std.proofs.Common.{◌≡◌, ℕ, List, Bool, ◌||◌, nat_le, Option, Some, None, Result, Ok, Err, refl, sym, ap, subst, ◌∙◌}
 use Rattle.std.specs.Prelude.{IfOk, option_map}
 use Rattle.machine.specs.Reduction.{Candidate, use_of, is_late, least}
 use Rattle.segment.specs.Warded.{Warded}
@@ -26,3 +26,8 @@ told_ended to limit now told old new e r = ap (λ (n : ℕ). nat_le told.after n
 pub result_ended : {E : Type 0} (to limit now : ℕ) (result : Result Reduced E) (old new : Managed) → to ≡ limit → IfOk result (λ told. Reduces to now told old new) → IfOk result (λ told. HasEnded limit now told)
 result_ended to limit now (Ok told) old new e r = told_ended to limit now told old new e r
 result_ended to limit now (Err error) old new e r = tt
+
+-- a reduction to the state's limit is one to the manager's
+pub result_reduces : {E : Type 0} (to limit now : ℕ) (result : Result Reduced E) (old new : Managed) → to ≡ limit → IfOk result (λ told. Reduces to now told old new)
+    → IfOk result (λ told. Reduces limit now told old new)
+result_reduces to limit now result old new e h = subst (λ (n : ℕ). IfOk result (λ told. Reduces n now told old new)) e h

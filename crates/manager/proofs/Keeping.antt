@@ -9,10 +9,11 @@ use Rattle.manager_state.specs.Managed.{Managed}
 use Rattle.manager.specs.Tokens.{Tokens, with_grant, with_round}
 use Rattle.manager.specs.Grows.{Grows, IsSoundDesk, GrantsNone}
 use Rattle.discard_book.specs.Live.{grants}
-use Rattle.manager.specs.Counted.{counted}
+use Rattle.return_queue.specs.declared.note.Note.{Note}
+use Rattle.manager.specs.Counted.{after_notes}
 use Rattle.manager.specs.Grows.{is_round}
 use Rattle.manager.proofs.Growth.{grows_none, grows_more, grows_grants}
-use Rattle.manager.proofs.StateGrows.{counted_grows}
+use Rattle.manager.proofs.StateGrows.{notes_grow, notes_limit}
 
 told_more : (a b g r : ℕ) (f : Tokens → Tokens) → ((t : Tokens) → (f t).grants ≡ t.grants + a) → ((t : Tokens) → (f t).rounds ≡ t.rounds + b) → (totals : Option Tokens)
     → IfSome totals (λ t. (t.grants ≡ g) × (t.rounds ≡ r)) → IfSome (option_map f totals) (λ t. (t.grants ≡ g + a) × (t.rounds ≡ r + b))
@@ -62,8 +63,10 @@ kept_round limit handed counts totals totals' old new was l grown e =
     kept_on 0 1 with_round (λ t. omega arith) (λ t. refl) limit handed counts totals totals' old new was l grown e
 
 -- returns were counted
-pub counted_grew : (limit : ℕ) (before after : List Entry) (pairs : List (ℕ × ℕ)) → after ≡ counted before pairs → Grows limit 0 0 before after
-counted_grew limit before after pairs e = subst (λ (es : List Entry). Grows limit 0 0 before es) (sym e) (counted_grows limit before pairs)
+pub kept_notes : (limit : ℕ) (handed : List Entry) (counts : Bool) (totals : Option Tokens) (old new : Managed) (notes : List Note)
+    → IsSoundDesk limit handed counts totals old → new ≡ after_notes old notes → IsSoundDesk limit handed counts totals new
+kept_notes limit handed counts totals old new notes was e = subst (λ (m : Managed). IsSoundDesk limit handed counts totals m) (sym e)
+    (kept_same limit handed counts totals old (after_notes old notes) was (notes_limit old notes) (notes_grow old.limit old notes))
 
 -- what holds of the queue by its name
 pub to_queue : {N T : Type 0} (P : N → T → Type 0) (queue name : N) (t : T) → queue ≡ name → P name t → P queue t

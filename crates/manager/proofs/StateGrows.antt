@@ -1,5 +1,5 @@
 -- Each call of a state grows its book.
-use Rattle.std.proofs.Common.{◌≡◌, ⊎_elim, ℕ, ◌+◌, Bool, true, false, ◌&&◌, List, [], ◌∷◌, ◌++◌, Result, Ok, Err, refl, sym, ap, ◌∙◌, subst, arith, if◌then◌else◌, nat_lt}
+use Rattle.std.proofs.Common.{◌≡◌, ⊎_elim, ℕ, ◌+◌, Bool, true, false, List, [], ◌∷◌, ◌++◌, Result, Ok, Err, refl, sym, ap, ◌∙◌, subst, arith, nat_lt}
 use Rattle.std.specs.Prelude.{MatchBool, IfOk, OnErr}
 use Rattle.machine.specs.Reduction.{tries, purged_by}
 use Rattle.lru_reduce.specs.Wards.{candidates_of, total_pages}
@@ -8,12 +8,15 @@ use Rattle.block_pool.specs.Block.{page_count, IsZero}
 use Rattle.segment.specs.Owned.{Owned, IsGranted}
 use Rattle.discard_book.specs.declared.entry.Entry.{Entry}
 use Rattle.discard_book.specs.declared.entry.Entry.TheVariants as entry
-use Rattle.discard_book.specs.Live.{live, has_number, grants}
+use Rattle.discard_book.specs.Live.{grants}
 use Rattle.discard_book.specs.Legal.{room}
 use Rattle.manager_state.specs.Managed.{Managed}
-use Rattle.manager_state.specs.Clients.{is_with}
-use Rattle.manager_state.specs.Calls.{Reduces, MakesRoom, Grants, GrantsWith, RunsOut, RunsOutWith}
-use Rattle.manager.specs.Counted.{count_one, counted}
+use Rattle.manager_state.specs.Calls.{Reduces, MakesRoom, Grants, GrantsWith, RunsOut, RunsOutWith, back_entries}
+use Rattle.manager_state.specs.declared.answers.Back.{Back}
+use Rattle.manager_state.specs.declared.answers.Back.TheVariants.{Counted, Purged, Unknown}
+use Rattle.return_queue.specs.declared.note.Note.{Note}
+use Rattle.std.proofs.lemmas.List.{append-nil}
+use Rattle.manager.specs.Counted.{answer_to, after_note, after_notes}
 use Rattle.manager.specs.Grows.{Grows, GrantsNone, GrantsOne}
 use Rattle.manager.specs.Brought.{IsFresh}
 use Rattle.manager.proofs.Growth.{grows_none, grows_more, grows_granted, grows_back, grows_reduced, grows_round, grows_grants}
@@ -78,15 +81,25 @@ runs_out_kept pages now old new r = ⊎_elim
 pub runs_out_with_kept : (block : List ℕ) (now : ℕ) (old new : Managed) → RunsOutWith block now old new → GrantsNone old new
 runs_out_with_kept block now old new r = runs_out_kept (page_count block) now old new r
 
-one_counted : (limit : ℕ) (b : Bool) (id : ℕ) (book : List Entry) → Grows limit 0 0 book (if b then book ++ entry.Back id ∷ [] else book)
-one_counted limit true id book = grows_back limit id book
-one_counted limit false id book = grows_none limit book
+-- what it leaves, by the pages that were wanted
+pub runs_out_of : (pages now : ℕ) (block : List ℕ) (old new : Managed) → page_count block ≡ pages → RunsOutWith block now old new → RunsOut pages now old new
+runs_out_of pages now block old new is r = subst (λ (n : ℕ). RunsOut n now old new) is r
+
+back_grows : (limit id : ℕ) (answer : Back) (book : List Entry) → Grows limit 0 0 book (book ++ back_entries id answer)
+back_grows limit id Counted book = grows_back limit id book
+back_grows limit id Purged book = subst (λ (es : List Entry). Grows limit 0 0 book es) (sym (append-nil book)) (grows_none limit book)
+back_grows limit id Unknown book = subst (λ (es : List Entry). Grows limit 0 0 book es) (sym (append-nil book)) (grows_none limit book)
 
 -- what returns make of a book
-pub counted_grows : (limit : ℕ) (book : List Entry) (pairs : List (ℕ × ℕ)) → Grows limit 0 0 book (counted book pairs)
-counted_grows limit book [] = grows_none limit book
-counted_grows limit book (p ∷ ps) = grows_more limit 0 0 0 0 book (count_one book p) (counted (count_one book p) ps)
-    (one_counted limit (is_with p.0 p.1 book && has_number (live book) p.1) p.1 book) (counted_grows limit (count_one book p) ps)
+pub notes_grow : (limit : ℕ) (old : Managed) (notes : List Note) → Grows limit 0 0 old.entries (after_notes old notes).entries
+notes_grow limit old [] = grows_none limit old.entries
+notes_grow limit old (n ∷ ns) = grows_more limit 0 0 0 0 old.entries (after_note old n).entries (after_notes (after_note old n) ns).entries
+    (back_grows limit n.id (answer_to n old) old.entries) (notes_grow limit (after_note old n) ns)
+
+-- they leave the limit
+pub notes_limit : (old : Managed) (notes : List Note) → (after_notes old notes).limit ≡ old.limit
+notes_limit old [] = refl
+notes_limit old (n ∷ ns) = notes_limit (after_note old n) ns
 
 -- a reduction that may be out of memory
 pub reduced_kept : {E : Type 0} (to now : ℕ) (result : Result Reduced E) (old new : Managed) → IfOk result (λ told. Reduces to now told old new) → OnErr result (new ≡ old) → GrantsNone old new

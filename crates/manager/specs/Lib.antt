@@ -3,5 +3,7 @@ pub mod Tokens
 pub mod Grows
 pub mod Ends
 pub mod Standing
+pub mod Given
+pub mod Turn
 pub mod Lending
 pub mod Brought

@@ -1,10 +1,15 @@
-ghost use Rattle.std.specs.Prelude.{◌≡◌, ℕ, ◌+◌, ◌^◌, ◌<◌, ◌≤◌, Some, None, true, false, [], length, IfSome, IfNone, IfOk, OnOk, OnErr, is_some, option_map};
+ghost use Rattle.std.specs.Prelude.{◌≡◌, ◌⊎◌, ℕ, ◌+◌, ◌-◌, ◌^◌, ◌<◌, ◌≤◌, Some, None, true, false, [], length, min, IfSome, IfNone, IfOk, OnOk, OnErr, is_some, option_map};
 ghost use Rattle.units.specs.Moment.{IsMoment};
 ghost use Rattle.units.specs.declared.TheConstants.{MOST_PAGES};
 ghost use Rattle.segment.specs.Owned.{IsGranted};
 ghost use Rattle.discard_book.specs.Legal.{IsLegal};
+ghost use Rattle.discard_book.specs.Live.{grants};
 ghost use Rattle.return_queue.specs.Order.{Starts, notes, InOrder, AllTaken};
-ghost use Rattle.manager_state.specs.Calls.{limit_under};
+ghost use Rattle.manager_state.specs.Calls.{limit_under, Reduces, RunsOut};
+ghost use Rattle.manager.specs.Counted.{CountsNotes, CountsBehind};
+ghost use Rattle.manager.specs.Turn.{GrantsBy, LacksBlock};
+ghost use Rattle.manager.specs.Standing.{none_direct};
+ghost use Rattle.manager.specs.Given.{with_direct};
 ghost use Rattle.manager.specs.Tokens.{with_grant, with_round};
 ghost use Rattle.manager.specs.Grows.{Grows, IsAccounted, GrantsNone, GrantsOne};
 ghost use Rattle.manager.specs.Brought.{IsBrought};
@@ -26,9 +31,9 @@ use std::sync::ledger::Ledger;
 use units::NoMemory;
 
 /// What lies behind a manager's lock: the desk, and the totals of the ledgers where the manager
-/// has them. Contracts see the desk's taker. Its state has the limit that was fixed, its book grew from the entries handed in and
-/// each Grant since carries the limit, the totals are what the book gained, and the taker is of the
-/// manager's queue.
+/// has them. Contracts see the desk's state and its taker. The state has the limit that was fixed,
+/// its book grew from the entries handed in and each Grant since carries the limit, the totals are
+/// what the book gained, and the taker is of the manager's queue.
 #[derive(Drop)]
 pub(crate) struct Behind<R: Returns, F: Fixed, G: Ledger, E: Ledger> {
     desk: Desk<R>,
@@ -38,10 +43,11 @@ pub(crate) struct Behind<R: Returns, F: Fixed, G: Ledger, E: Ledger> {
 
 impl<R: Returns, F: Fixed, G: Ledger, E: Ledger> Model for Behind<R, F, G, E> {
     ghost use Rattle.manager.specs.Grows.{IsSoundDesk};
+    ghost use Rattle.manager.specs.Turn.{DeskView};
 
-    ghost Value = { R.Taker };
+    ghost Value = { DeskView R.Taker };
 
-    ghost view = { λ b. b.desk.taker };
+    ghost view = { λ b. record { state = b.desk.state; taker = b.desk.taker } };
 
     ghost invariant = { λ b. IsSoundDesk F.limit F.handed F.counts b.totals b.desk.state
         × R.is_taker F.queue b.desk.taker };
@@ -51,6 +57,59 @@ impl<R: Returns, F: Fixed, G: Ledger, E: Ledger> Model for Behind<R, F, G, E> {
 /// of a handle can leave it out.
 #[derive(Drop)]
 pub(crate) struct Settled(());
+
+/// How many notes were counted past the queue, and what the last one was. Only
+/// `Behind::settle_behind` counts one, so that where this is told, no note can be lost or changed on
+/// its way.
+#[derive(Drop)]
+pub(crate) struct DirectNotes {
+    count: u64,
+    /// Of the last one, as are the next two.
+    client: u32,
+    id: u64,
+    /// Those of its block, 0 where it had none.
+    pages: u32,
+}
+
+impl Model for DirectNotes {
+    ghost use Rattle.manager.specs.Standing.{Direct};
+
+    ghost Value = { Direct };
+
+    ghost view = { λ d. record {
+      count = d.count;
+      client = d.client;
+      id = d.id;
+      pages = d.pages;
+    } };
+}
+
+impl DirectNotes {
+    /// No note was counted.
+    pub(crate) fn new() -> DirectNotes
+        ensures { result ≡ none_direct }
+    {
+        DirectNotes {
+            count: 0,
+            client: 0,
+            id: 0,
+            pages: 0,
+        }
+    }
+
+    /// Counts one more.
+    fn count(&mut self, note: &Note)
+        ensures { self.new ≡ with_direct note.now self.old }
+    {
+        self.count = self.count.saturating_add(1);
+        self.client = note.client;
+        self.id = note.id;
+        self.pages = match &note.block {
+            Some(block) => block.pages(),
+            None => 0,
+        };
+    }
+}
 
 /// How many passes were drained. Only `Behind::drain` counts one, so that where this count is told, no
 /// pass can be left out.
@@ -108,9 +167,13 @@ fn grant_in_turn(
     ensures side { IfOk result (λ turn. IfSome turn (λ side. IsGranted pages side)) }
     ensures grants { IfOk result (λ turn. IfSome turn (λ side.
         GrantsOne side.id state.old state.new)) }
+    ensures by { IfOk result (λ turn. IfSome turn (λ side.
+        GrantsBy client pages now block side state.old state.new)) }
     ensures none { IfOk result (λ turn. IfNone turn (state.new ≡ state.old)) }
+    ensures lacks { IfOk result (λ turn. IfNone turn (LacksBlock pages block state.old)) }
     ensures made { state.new.stock.made ≡ state.old.stock.made }
     ensures err { OnErr result (GrantsNone state.old state.new) }
+    ensures out { OnErr result (RunsOut pages now state.old state.new) }
 {
     if let Some(block) = block {
         return Ok(Some(state.grant_with(alloc, client, block, now)?));
@@ -129,6 +192,7 @@ impl<R: Returns, F: Fixed, G: Ledger, E: Ledger> Behind<R, F, G, E> {
         requires taker { R.is_taker F.queue desk.taker }
         requires counts { is_some totals ≡ F.counts }
         requires fresh { IfSome totals (λ t. (t.grants ≡ 0) × (t.rounds ≡ 0)) }
+        ensures { result ≡ record { state = desk.state; taker = desk.taker } }
     {
         Behind {
             desk,
@@ -140,10 +204,14 @@ impl<R: Returns, F: Fixed, G: Ledger, E: Ledger> Behind<R, F, G, E> {
     /// Counts what stands in the queue, so that all is counted that the passes taken in had seen given.
     pub(crate) fn settle<H: Wait>(&mut self, rt: &H, returns: &R) -> Settled
         requires { F.queue ≡ R.name returns.now }
-        ensures { (R.until self.old ≤ length (R.taken self.old)
-            → AllTaken (R.taken self.old) (R.knows self.old))
-            → R.until self.old ≤ length (R.taken self.old) + R.most returns.now
-            → AllTaken (R.taken self.new) (R.knows self.new) }
+        ensures counted { CountsNotes self.old.state (R.taken self.old.taker)
+            self.new.state (R.taken self.new.taker)
+            (λ n. (n ≤ R.most returns.now) × (n < R.most returns.now
+            → InOrder (R.taken self.new.taker) [] (R.knows self.new.taker))) }
+        ensures all { (R.until self.old.taker ≤ length (R.taken self.old.taker)
+            → AllTaken (R.taken self.old.taker) (R.knows self.old.taker))
+            → R.until self.old.taker ≤ length (R.taken self.old.taker) + R.most returns.now
+            → AllTaken (R.taken self.new.taker) (R.knows self.new.taker) }
     {
         self.desk.settle(rt, returns);
         Settled(())
@@ -156,11 +224,18 @@ impl<R: Returns, F: Fixed, G: Ledger, E: Ledger> Behind<R, F, G, E> {
         returns: &R,
         pass: R::Pass,
         note: Note,
+        direct: &mut DirectNotes,
     ) -> Back
         requires queue { F.queue ≡ R.name returns.now }
         requires pass { R.is_pass F.queue pass }
-        ensures { Starts (R.taken self.new) (notes (R.seen pass)) }
+        ensures counted { CountsBehind result note self.old.state (R.taken self.old.taker)
+            self.new.state (R.taken self.new.taker)
+            (λ n. (n ≤ R.most returns.now) × (n < R.most returns.now
+            → InOrder (R.taken self.new.taker) [] (R.knows self.new.taker))) }
+        ensures all { Starts (R.taken self.new.taker) (notes (R.seen pass)) }
+        ensures direct { direct.new ≡ with_direct note direct.old }
     {
+        direct.count(&note);
         self.desk.settle_behind(rt, returns, pass, note)
     }
 
@@ -175,8 +250,10 @@ impl<R: Returns, F: Fixed, G: Ledger, E: Ledger> Behind<R, F, G, E> {
         requires queue { F.queue ≡ R.name returns.now }
         requires pass { R.is_pass F.queue pass }
         requires few { drains.old + 1 < 2 ^ 64 }
-        ensures empty { InOrder (R.taken self.new) [] (R.knows self.new) }
-        ensures all { Starts (R.taken self.new) (notes (R.seen pass)) }
+        ensures notes { CountsNotes self.old.state (R.taken self.old.taker)
+            self.new.state (R.taken self.new.taker) (λ n. result ≡ min n (2 ^ 64 - 1)) }
+        ensures empty { InOrder (R.taken self.new.taker) [] (R.knows self.new.taker) }
+        ensures all { Starts (R.taken self.new.taker) (notes (R.seen pass)) }
         ensures counted { drains.new ≡ drains.old + 1 }
     {
         drains.passes += 1;
@@ -207,6 +284,13 @@ impl<R: Returns, F: Fixed, G: Ledger, E: Ledger> Behind<R, F, G, E> {
             shares.new ≡ option_map with_grant shares.old)) }
         ensures none { IfOk result (λ turn. IfNone turn (shares.new ≡ shares.old)) }
         ensures err { OnErr result (shares.new ≡ shares.old) }
+        ensures by { IfOk result (λ turn. IfSome turn (λ side.
+            GrantsBy client pages now block side self.old.state self.new.state)) }
+        ensures same { IfOk result (λ turn. IfNone turn (self.new ≡ self.old)) }
+        ensures why { IfOk result (λ turn. IfNone turn
+            ((grants self.old.state.entries < above) ⊎ LacksBlock pages block self.old.state)) }
+        ensures out { OnErr result (RunsOut pages now self.old.state self.new.state) }
+        ensures taker { self.new.taker ≡ self.old.taker }
     {
         if self.desk.state.book().grants() < above {
             return Ok(None);
@@ -232,6 +316,10 @@ impl<R: Returns, F: Fixed, G: Ledger, E: Ledger> Behind<R, F, G, E> {
         ensures ended { IfOk result (λ told. HasEnded F.limit now told) }
         ensures counted { OnOk result (shares.new ≡ option_map with_round shares.old) }
         ensures err { OnErr result (shares.new ≡ shares.old) }
+        ensures reduces { IfOk result (λ told.
+            Reduces F.limit now told self.old.state self.new.state) }
+        ensures same { OnErr result (self.new ≡ self.old) }
+        ensures taker { self.new.taker ≡ self.old.taker }
     {
         let told = self.desk.state.enforce(alloc, now)?;
         // For the proof: calls up the clause `few` of `entry_count`.
@@ -243,7 +331,11 @@ impl<R: Returns, F: Fixed, G: Ledger, E: Ledger> Behind<R, F, G, E> {
     /// Reduces to the limit.
     pub(crate) fn enforce(&mut self, alloc: Global, now: u64) -> Result<Reduced, NoMemory>
         requires { IsMoment now }
-        ensures { IfOk result (λ told. HasEnded F.limit now told) }
+        ensures ended { IfOk result (λ told. HasEnded F.limit now told) }
+        ensures reduces { IfOk result (λ told.
+            Reduces F.limit now told self.old.state self.new.state) }
+        ensures same { OnErr result (self.new ≡ self.old) }
+        ensures taker { self.new.taker ≡ self.old.taker }
     {
         self.desk.state.enforce(alloc, now)
     }
@@ -256,7 +348,11 @@ impl<R: Returns, F: Fixed, G: Ledger, E: Ledger> Behind<R, F, G, E> {
         now: u64,
     ) -> Result<Reduced, NoMemory>
         requires { IsMoment now }
-        ensures { IfOk result (λ told. HasEnded (limit_under level F.limit) now told) }
+        ensures ended { IfOk result (λ told. HasEnded (limit_under level F.limit) now told) }
+        ensures reduces { IfOk result (λ told.
+            Reduces (limit_under level F.limit) now told self.old.state self.new.state) }
+        ensures same { OnErr result (self.new ≡ self.old) }
+        ensures taker { self.new.taker ≡ self.old.taker }
     {
         self.desk.state.pressure(alloc, level, now)
     }
@@ -270,13 +366,18 @@ impl<R: Returns, F: Fixed, G: Ledger, E: Ledger> Behind<R, F, G, E> {
         now: u64,
     ) -> Result<Reduced, NoMemory>
         requires { IsMoment now }
-        ensures { IfOk result (λ told. HasEnded (limit_under level F.limit) now told) }
+        ensures ended { IfOk result (λ told. HasEnded (limit_under level F.limit) now told) }
+        ensures reduces { IfOk result (λ told.
+            Reduces (limit_under level F.limit) now told self.old.state self.new.state) }
+        ensures same { OnErr result (self.new ≡ self.old) }
+        ensures taker { self.new.taker ≡ self.old.taker }
     {
         self.pressure(alloc, level, now)
     }
 
     /// The state.
     pub(crate) fn finish(self) -> State
+        ensures same { result ≡ self.state }
         ensures limit { result.limit ≡ F.limit }
         ensures grown { (granted : ℕ) × Grows F.limit granted 0 F.handed result.entries }
         ensures legal { IsLegal result.entries }
@@ -292,6 +393,7 @@ impl<R: Returns, F: Fixed, G: Ledger, E: Ledger> Behind<R, F, G, E> {
     pub(crate) fn finish_with(self, mut whole: Shares<G, E>) -> State
         requires counts { F.counts ≡ true }
         requires all { whole.parts ≡ PARTS }
+        ensures same { result ≡ self.state }
         ensures limit { result.limit ≡ F.limit }
         ensures grown { Grows F.limit whole.grants whole.rounds F.handed result.entries }
         ensures legal { IsLegal result.entries }

@@ -1,9 +1,8 @@
 ghost use Rattle.std.specs.Prelude.{◌≡◌, ℕ, ◌+◌, ◌≤◌, ◌<◌, Bool, true, false, List, [], ◌∷◌, ◌++◌, length, min, ◌^◌, ◌-◌};
 ghost use Rattle.return_queue.specs.Order.{Starts, notes, InOrder, AllTaken, Keeps};
 ghost use Rattle.return_queue.specs.declared.note.Note.{Note};
-ghost use Rattle.manager_state.specs.Calls.{answer_of_back, stock_after_back};
 ghost use Rattle.std.specs.Borrow.{sem};
-ghost use Rattle.manager.specs.Counted.{count_one, pair_of, CountsNotes, CountsBehind};
+ghost use Rattle.manager.specs.Counted.{answer_to, after_note, CountsNotes, CountsBehind};
 ghost use Rattle.manager.specs.Lending.{LendsState};
 
 use manager_state::{Back, State};
@@ -20,9 +19,8 @@ pub struct Desk<R: Returns> {
 
 /// Counts the return that a note tells of.
 fn count_back(state: &mut State, note: Note) -> Back
-    ensures told { result ≡ answer_of_back note.client note.id state.old.entries }
-    ensures book { state.new.entries ≡ count_one state.old.entries (pair_of note) }
-    ensures stock { state.new.stock ≡ stock_after_back note.block state.old.stock }
+    ensures told { result ≡ answer_to note state.old }
+    ensures state { state.new ≡ after_note state.old note }
     ensures limit { state.new.limit ≡ state.old.limit }
 {
     state.back(note.client, note.id, note.block)
@@ -58,9 +56,9 @@ impl<R: Returns> Desk<R> {
         ensures queue { R.is_taker (R.name returns.now) self.new.taker }
         ensures took { result ≡ true → ((note : Note)
             × (R.taken self.new.taker ≡ R.taken self.old.taker ++ note ∷ [])
-            × (self.new.state.entries ≡ count_one self.old.state.entries (pair_of note))) }
+            × (self.new.state ≡ after_note self.old.state note)) }
         ensures none { result ≡ false → (R.taken self.new.taker ≡ R.taken self.old.taker)
-            × (self.new.state.entries ≡ self.old.state.entries) }
+            × (self.new.state ≡ self.old.state) }
         ensures limit { self.new.state.limit ≡ self.old.state.limit }
         ensures knows { Keeps (R.knows self.old.taker) (R.knows self.new.taker) }
         ensures until { R.until self.new.taker ≡ R.until self.old.taker }
@@ -87,8 +85,8 @@ impl<R: Returns> Desk<R> {
         requires { R.is_taker (R.name returns.now) self.old.taker }
         ensures queue { R.is_taker (R.name returns.now) self.new.taker }
         ensures counted { CountsNotes
-            self.old.state.entries (R.taken self.old.taker)
-            self.new.state.entries (R.taken self.new.taker) (λ n. result ≡ n) }
+            self.old.state (R.taken self.old.taker)
+            self.new.state (R.taken self.new.taker) (λ n. result ≡ n) }
         ensures limit { self.new.state.limit ≡ self.old.state.limit }
         ensures knows { Keeps (R.knows self.old.taker) (R.knows self.new.taker) }
         ensures most { result ≤ R.most returns.now }
@@ -116,8 +114,8 @@ impl<R: Returns> Desk<R> {
         requires pass { R.is_pass (R.name returns.now) pass }
         ensures queue { R.is_taker (R.name returns.now) self.new.taker }
         ensures counted { CountsBehind result note
-            self.old.state.entries (R.taken self.old.taker)
-            self.new.state.entries (R.taken self.new.taker)
+            self.old.state (R.taken self.old.taker)
+            self.new.state (R.taken self.new.taker)
             (λ n. (n ≤ R.most returns.now) × (n < R.most returns.now
             → InOrder (R.taken self.new.taker) [] (R.knows self.new.taker))) }
         ensures limit { self.new.state.limit ≡ self.old.state.limit }
@@ -135,8 +133,8 @@ impl<R: Returns> Desk<R> {
         requires pass { R.is_pass (R.name returns.now) pass }
         ensures queue { R.is_taker (R.name returns.now) self.new.taker }
         ensures counted { CountsNotes
-            self.old.state.entries (R.taken self.old.taker)
-            self.new.state.entries (R.taken self.new.taker) (λ n. result ≡ min n (2 ^ 64 - 1)) }
+            self.old.state (R.taken self.old.taker)
+            self.new.state (R.taken self.new.taker) (λ n. result ≡ min n (2 ^ 64 - 1)) }
         ensures limit { self.new.state.limit ≡ self.old.state.limit }
         ensures empty { InOrder (R.taken self.new.taker) [] (R.knows self.new.taker) }
         ensures all { Starts (R.taken self.new.taker) (notes (R.seen pass)) }

@@ -1,14 +1,16 @@
-ghost use Rattle.std.specs.Prelude.{◌≡◌, ℕ, ◌+◌, ◌-◌, ◌^◌, ◌<◌, ◌≤◌, Some, None, true, false, IfSome, IfNone, IfOk, OnOk, OnErr, option_map};
+ghost use Rattle.std.specs.Prelude.{◌≡◌, ℕ, ◌+◌, ◌-◌, ◌^◌, ◌<◌, ◌≤◌, Some, None, true, false, [], IfSome, IfNone, IfOk, OnOk, OnErr, option_map};
 ghost use Rattle.units.specs.Moment.{IsMoment};
 ghost use Rattle.units.specs.Count.{next_count};
 ghost use Rattle.units.specs.declared.TheConstants.{MOST_PAGES};
 ghost use Rattle.segment.specs.Owned.{IsGranted};
 ghost use Rattle.manager_state.specs.Calls.{limit_under};
 ghost use Rattle.manager.specs.Tokens.{with_round, standing_of};
-ghost use Rattle.manager.specs.Standing.{Tracks};
+ghost use Rattle.manager.specs.Standing.{Tracks, none_direct};
+ghost use Rattle.manager.specs.Given.{note_of, GivesNote, GrantsSegment};
 ghost use Rattle.manager.specs.Brought.{IsFresh, IsBrought};
 ghost use Rattle.manager.specs.Ends.{HasEnded};
 
+use crate::behind::DirectNotes;
 use crate::fixed::Fixed;
 use crate::manager::Manager;
 use crate::shares::Shares;
@@ -42,6 +44,8 @@ pub struct Handle<'m, R: Returns, F: Fixed, G: Ledger, E: Ledger> {
     grants: u64,
     returns: u64,
     greatest: u64,
+    /// Its notes that were counted past the queue.
+    direct: DirectNotes,
 }
 
 impl<'m, R: Returns, F: Fixed, G: Ledger, E: Ledger> Model for Handle<'m, R, F, G, E> {
@@ -56,6 +60,8 @@ impl<'m, R: Returns, F: Fixed, G: Ledger, E: Ledger> Model for Handle<'m, R, F, 
       grants = h.grants;
       returns = h.returns;
       greatest = h.greatest;
+      queued = R.own h.pass;
+      direct = h.direct;
     } };
 
     ghost invariant = { λ h. R.is_pass F.queue h.pass
@@ -73,6 +79,8 @@ impl<F: Fixed, G: Ledger, E: Ledger> Manager<PlainReturns, F, G, E> {
           grants = 0;
           returns = 0;
           greatest = 0;
+          queued = [];
+          direct = none_direct;
         } }
     {
         let (_returns, pass, _taker) = PlainReturns::new();
@@ -84,6 +92,7 @@ impl<F: Fixed, G: Ledger, E: Ledger> Manager<PlainReturns, F, G, E> {
             grants: 0,
             returns: 0,
             greatest: 0,
+            direct: DirectNotes::new(),
         }
     }
 }
@@ -99,6 +108,8 @@ impl<R: Returns, F: Fixed, G: Ledger, E: Ledger> Manager<R, F, G, E> {
           grants = 0;
           returns = 0;
           greatest = 0;
+          queued = R.own pass;
+          direct = none_direct;
         } }
     {
         Handle {
@@ -109,6 +120,7 @@ impl<R: Returns, F: Fixed, G: Ledger, E: Ledger> Manager<R, F, G, E> {
             grants: 0,
             returns: 0,
             greatest: 0,
+            direct: DirectNotes::new(),
         }
     }
 }
@@ -140,11 +152,8 @@ impl<'m, R: Returns, F: Fixed, G: Ledger, E: Ledger> Handle<'m, R, F, G, E> {
         requires moment { IsMoment now }
         requires block { IsBrought pages block }
         ensures side { IfOk result (λ turn. IfSome turn (λ side. IsGranted pages side)) }
-        ensures rises { IfOk result (λ turn. IfSome turn (λ side. self.old.greatest < side.id)) }
-        ensures greatest { IfOk result (λ turn. IfSome turn (λ side.
-            self.new.greatest ≡ side.id)) }
-        ensures counted { IfOk result (λ turn. IfSome turn (λ _.
-            self.new.grants ≡ next_count self.old.grants)) }
+        ensures grants { IfOk result (λ turn. IfSome turn (λ side.
+            GrantsSegment side self.old self.new)) }
         ensures none { IfOk result (λ turn. IfNone turn (self.new ≡ self.old)) }
         ensures err { OnErr result (self.new ≡ self.old) }
         ensures returns { self.new.returns ≡ self.old.returns }
@@ -223,9 +232,10 @@ impl<'m, R: Returns, F: Fixed, G: Ledger, E: Ledger> Granter for Handle<'m, R, F
 
     ghost greatest = { λ h. h.greatest };
 
-    ghost granted_to = { λ _ _ _ _ _. Unit {0} };
+    // Which client it was, and when, stands in the book alone, which no handle sees.
+    ghost granted_to = { λ _ _ side old new. GrantsSegment side old new };
 
-    ghost took_back = { λ _ _ _ _ _. Unit {0} };
+    ghost took_back = { λ client id block old new. GivesNote (note_of client id block) old new };
 
     ghost Standing = { Option Tokens };
 
@@ -260,7 +270,7 @@ impl<'m, R: Returns, F: Fixed, G: Ledger, E: Ledger> Granter for Handle<'m, R, F
         let note = Note { client, id, block };
         if let Err(note) = self.manager.returns().give(rt, &mut self.pass, note) {
             let seen = self.manager.returns().split(&mut self.pass);
-            self.manager.settle_behind(rt, seen, note);
+            self.manager.settle_behind(rt, seen, note, &mut self.direct);
         }
     }
 }

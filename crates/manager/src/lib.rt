@@ -12,8 +12,12 @@
 //! in, the queue's name) is a set of ghost values that its maker picks (`Fixed`).
 //!
 //! A handle's numbers rise, since it compares them under the lock before it grants. No block is made
-//! under the lock. Two tokens make sure that no step is left out: a handle's grant owes a `Settled`,
-//! which only counting the queue's notes makes, and `Drains` rises only where a pass is drained.
+//! under the lock. Three tokens make sure that no step is left out: a handle's grant owes a `Settled`,
+//! which only counting the queue's notes makes, `Drains` rises only where a pass is drained, and
+//! `DirectNotes` only where a note is counted past the queue.
+//!
+//! A handle tells what its calls made of it: a grant by `GrantsSegment`, a return by `GivesNote`. One
+//! turn under the lock says all that it makes of the state and of the taker.
 
 mod behind;
 mod desk;

@@ -9,9 +9,10 @@ ghost use Rattle.manager.specs.Tokens.{with_grant, with_round};
 ghost use Rattle.manager.specs.Grows.{Grows};
 ghost use Rattle.manager.specs.Brought.{IsBrought};
 ghost use Rattle.manager.specs.Ends.{HasEnded};
+ghost use Rattle.manager.specs.Given.{with_direct};
 ghost use Rattle.manager.specs.declared.shares.TheConstants.{PARTS};
 
-use crate::behind::{Behind, Drains};
+use crate::behind::{Behind, DirectNotes, Drains};
 use crate::desk::Desk;
 use crate::fixed::Fixed;
 use crate::shares::{Shares, Totals};
@@ -164,12 +165,19 @@ impl<R: Returns, F: Fixed, G: Ledger, E: Ledger> Manager<R, F, G, E> {
     }
 
     /// Counts what a pass had seen given, and then a note.
-    pub(crate) fn settle_behind<H: Wait>(&self, rt: &H, pass: R::Pass, note: Note) -> Back
+    pub(crate) fn settle_behind<H: Wait>(
+        &self,
+        rt: &H,
+        pass: R::Pass,
+        note: Note,
+        direct: &mut DirectNotes,
+    ) -> Back
         requires { R.is_pass F.queue pass }
+        ensures { direct.new ≡ with_direct note direct.old }
     {
         self.behind
             .lock(rt)
-            .settle_behind(rt, &self.returns, pass, note)
+            .settle_behind(rt, &self.returns, pass, note, direct)
     }
 
     /// Reduces granted pages to the limit at a moment. It enters no ledger, and takes no note.

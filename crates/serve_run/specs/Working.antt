@@ -1,9 +1,9 @@
 -- What the workers of a run are given, what they end with, and what is taken in of their ends.
-use Rattle.std.specs.Prelude.{◌≡◌, ℕ, ◌+◌, ◌*◌, ◌<◌, ◌≤◌, List, get_or, length, Some, Option, IfSome, IsSome}
+use Rattle.std.specs.Prelude.{◌≡◌, ℕ, ◌+◌, ◌*◌, ◌<◌, ◌≤◌, List, [], get_or, length, Some, Option, IfSome, IsSome}
 use Rattle.request_text.specs.declared.limits.TheConstants.{MOST_REQUESTS}
 use Rattle.reply_places.specs.Framed.{Placed}
 use Rattle.manager.specs.Tokens.{Tokens}
-use Rattle.manager.specs.Standing.{Held}
+use Rattle.manager.specs.Standing.{Held, none_direct}
 use Rattle.serve_session.specs.declared.served.ServedClient.{ServedClient}
 use Rattle.serve_session.specs.Places.{numbers_of, AreEmpty, AreOfClient, AreAnswered}
 use Rattle.serve_session.specs.Running.{ServingValue}
@@ -15,9 +15,17 @@ use Rattle.serve_run.specs.Dealing.{AreDealt, AllEmpty}
 abbrev pub one_part : ℕ → ℕ → Tokens
 one_part grants rounds = record { parts = 1; grants = grants; rounds = rounds }
 
--- a handle through which nothing was granted, and so many enforcements were made
+-- a handle through which nothing was granted and nothing came back, and so many enforcements were made
 abbrev pub enforced : ℕ → Held
-enforced rounds = record { shares = Some (one_part 0 rounds); base = 0; grants = 0; returns = 0; greatest = 0 }
+enforced rounds = record {
+  shares = Some (one_part 0 rounds);
+  base = 0;
+  grants = 0;
+  returns = 0;
+  greatest = 0;
+  queued = [];
+  direct = none_direct;
+}
 
 -- a client's places are those of its requests, and nothing was written to them
 pub record IsReady (run : ServingValue) (client : ℕ) (places : List Placed) : Type 0 where

@@ -1,8 +1,14 @@
 use Rattle.std.proofs.Common.{sym, ◌∙◌}
 use Rattle.manager_state.proofs.Rooms.{on_err}
-use Rattle.manager.proofs.StateGrows.{grants_one, grants_one_with, granted_with, runs_out_kept, runs_out_with_kept}
+use Rattle.manager.proofs.StateGrows.{grants_one, grants_one_with, granted_with, runs_out_kept, runs_out_with_kept, runs_out_of}
 use Rattle.manager.proofs.Made.{grants_made, grants_with_made, runs_out_made, runs_out_with_made}
 use Rattle.manager.proofs.behind.grant_in_turn.Goals as goal
+
+pub returns-in_err-grant_with-clause-out : goal.returns-in_err-grant_with-clause-out
+returns-in_err-grant_with-clause-out c = on_err c.from_residual.result (runs_out_of _ _ _ _ _ (rw c.in-Some.is at c.requires.block).1 c.in_err-grant_with.ensures.err)
+
+pub returns-in_err-grant-clause-out : goal.returns-in_err-grant-clause-out
+returns-in_err-grant-clause-out c = on_err c.from_residual-in_err-grant.result c.in_err-grant.ensures.err
 
 pub returns-in_err-grant_with-clause-err : goal.returns-in_err-grant_with-clause-err
 returns-in_err-grant_with-clause-err c = on_err c.from_residual.result (runs_out_with_kept _ _ _ _ c.in_err-grant_with.ensures.err)

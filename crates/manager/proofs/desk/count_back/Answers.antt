@@ -1,5 +1,5 @@
-use Rattle.manager.proofs.Counting.{counts_one}
+use Rattle.manager.proofs.Counting.{gave_back}
 use Rattle.manager.proofs.desk.count_back.Goals as goal
 
-pub returns-clause-book : goal.returns-clause-book
-returns-clause-book c = counts_one c.args.note.client c.args.note.id _ _ _ c.back.ensures.told c.back.ensures.entries
+pub returns-clause-state : goal.returns-clause-state
+returns-clause-state c = gave_back c.args.note _ _ _ c.back.ensures

@@ -1,9 +1,8 @@
-use Rattle.manager.proofs.Keeping.{kept_same, counted_grew, to_queue}
-use Rattle.manager.specs.Counted.{pairs_of}
+use Rattle.manager.proofs.Keeping.{kept_notes, to_queue}
 use Rattle.manager.proofs.behind.Behind.drain.Goals as goal
 
 pub invariant_of-self : goal.invariant_of-self
 invariant_of-self g c = (
-  kept_same _ _ _ _ _ _ c.self.invariant.0 c.drain.ensures.limit (counted_grew _ _ _ (pairs_of c.drain.ensures.counted.0) c.drain.ensures.counted.2),
+  kept_notes _ _ _ _ _ _ c.drain.ensures.counted.0 c.self.invariant.0 c.drain.ensures.counted.2,
   to_queue g.R.Returns.is_taker _ _ _ c.requires.queue c.drain.ensures.queue,
 )
