@@ -3,6 +3,7 @@ use Rattle.std.proofs.Common.{◌≡◌, ◌≢◌, ℕ, ◌+◌, ◌-◌, ◌^�
 use Rattle.std.specs.List.{count_by, list_any, sum_by}
 use Rattle.std.proofs.lemmas.Bool.{cases_Bool, eqb-true, or_parts, lt-ltb, ltb-true}
 use Rattle.std.proofs.lemmas.List.{map-append}
+use Rattle.std.proofs.lemmas.List.Quantifiers.{all_pairs_push}
 use Rattle.std.proofs.lemmas.List.Elements.{All-push, All-weaker}
 use Rattle.std.proofs.lemmas.List.Folds.{list_any-append}
 use Rattle.std.proofs.lemmas.List.Sums.{sum_by-append, sum_by-cons, sum_by_push}
@@ -18,6 +19,7 @@ use Rattle.span_heap.specs.Changes.{whole_of, GrowsFront}
 use Rattle.client.specs.Coming.{IsFrontLocked}
 use Rattle.client.specs.Gone.{has_side, is_side, kept_side, after_next}
 use Rattle.client.specs.Lease.{Lease, IsLease, pages_at}
+use Rattle.client.specs.Places.{AreBelow}
 use Rattle.client.specs.Seen.{Seen, is_gone, known, numbers_of, segment_of, IsUnknown}
 use Rattle.client.specs.Pieces.{Part, Owns, AllStay, IsNew, content_at}
 use Rattle.client.specs.Finding.{Adopts, part_of}
@@ -82,8 +84,8 @@ one_more n id k few fresh =
     ]
 
 -- a side is kept: the client is
-pub kept_kept : (seen : Seen) (side : Owned) (gone : List Owned) (told pages room room' : ℕ) → IsSoundClient seen pages room → IsUnknown side.id seen → 1 ≤ seen.taken → gone ≡ kept_side side seen.told seen.gone → told ≡ seen.told + 1 → room' + 1 ≡ room
-    → IsSoundClient (record seen { gone = gone; told = told; taken = seen.taken - 1 }) pages room'
+pub kept_kept : {rising : Bool} (seen : Seen) (side : Owned) (gone : List Owned) (told pages room room' : ℕ) → IsSoundClient seen pages room rising → IsUnknown side.id seen → 1 ≤ seen.taken → gone ≡ kept_side side seen.told seen.gone → told ≡ seen.told + 1 → room' + 1 ≡ room
+    → IsSoundClient (record seen { gone = gone; told = told; taken = seen.taken - 1 }) pages room' rising
 kept_kept seen side gone told pages room room' kept unknown some gone_is told_is less =
     let sound = kept.sound in
     record {
@@ -105,6 +107,7 @@ kept_kept seen side gone told pages room room' kept unknown some gone_is told_is
       small = kept.small;
       roomy = omega (arith, kept.roomy, some, less);
       full = omega (arith, kept.full, less);
+      rises = kept.rises;
     }
 
 -- the numbers with one segment more
@@ -114,7 +117,7 @@ numbers_pushed leases lease id =
     omega (arith, sum_by-map (is_id id) (λ (l : Lease). l.side.id) (leases ++ lease ∷ []), sum_by-map (is_id id) (λ (l : Lease). l.side.id) leases, sum_by_push f leases lease)
 
 -- a side that was taken out gave its block: the client is kept
-pub kept_whole : (seen : Seen) (pages room : ℕ) → IsSoundClient seen pages room → IsSoundClient (record seen { taken = seen.taken - 1 }) pages room
+pub kept_whole : {rising : Bool} (seen : Seen) (pages room : ℕ) → IsSoundClient seen pages room rising → IsSoundClient (record seen { taken = seen.taken - 1 }) pages room rising
 kept_whole seen pages room kept =
     let sound = kept.sound in
     record {
@@ -133,16 +136,17 @@ kept_whole seen pages room kept =
       small = kept.small;
       roomy = omega (arith, kept.roomy);
       full = kept.full;
+      rises = kept.rises;
     }
 
 both' : (b : Bool) → b ≡ true → b ≡ false → ⊥
 both' b e f = cc
 
 -- A segment came: the client is kept.
-pub kept_adopted : (seen : Seen) (heap : Contents) (side : Owned) (locks : List Bool) (leases : List Lease) (span : Run) (whole pages all room room' : ℕ) → IsSoundClient seen all room → side.phase ≡ phase.Held → side.pages ≡ whole → IsUnknown side.id seen → 1 ≤ pages → pages ≤ whole
+pub kept_adopted : {rising rising' : Bool} (seen : Seen) (heap : Contents) (side : Owned) (locks : List Bool) (leases : List Lease) (span : Run) (whole pages all room room' : ℕ) → IsSoundClient seen all room rising → side.phase ≡ phase.Held → side.pages ≡ whole → IsUnknown side.id seen → 1 ≤ pages → pages ≤ whole
     → IsFrontLocked whole pages locks → GrowsFront seen.heap heap side.id whole pages span → IsPartition heap → leases ≡ seen.leases ++ record { side = side; locks = locks } ∷ [] → length seen.leases + 1 + seen.taken ≤ room' → room' < 2 ^ 64 → size_of seen.heap.segments + whole < 2 ^ 32
-    → IsSoundClient (record seen { leases = leases; heap = heap }) (all + whole) room'
-kept_adopted seen heap side locks leases span whole pages all room room' kept held size unknown some less front grows partition leases_is roomy full small =
+    → (rising' ≡ true → (rising ≡ true) × AreBelow side.id seen.leases) → IsSoundClient (record seen { leases = leases; heap = heap }) (all + whole) room' rising'
+kept_adopted seen heap side locks leases span whole pages all room room' kept held size unknown some less front grows partition leases_is roomy full small below =
     let sound = kept.sound in
     let lease : Lease = record { side = side; locks = locks } in
     let segment : Segment = segment_of lease in
@@ -170,6 +174,7 @@ kept_adopted seen heap side locks leases span whole pages all room room' kept he
       small = omega (arith, kept.counted, small);
       roomy = omega (arith, roomy, length-append seen.leases (lease ∷ []));
       full = full;
+      rises = λ on. all_pairs_push (λ (one later : Lease). one.side.id < later.side.id) seen.leases lease (kept.rises (below on).0) (below on).1;
     })
   where
     held_not_gone : (p : Phase) → p ≡ phase.Held → p ≡ phase.Gone → ⊥
@@ -272,7 +277,7 @@ not_in_heap seen id sound unknown =
     has_mapped (l ∷ leases) = ap (λ more. has_id id (segment_of l) || more) (has_mapped leases)
 
 -- one more side is told: the client is kept
-pub kept_told : (seen : Seen) (gone : List Owned) (told pages room room' : ℕ) → IsSoundClient seen pages room → gone ≡ seen.gone → told ≡ after_next seen.gone seen.told → room' ≡ room → IsSoundClient (record seen { gone = gone; told = told }) pages room'
+pub kept_told : {rising : Bool} (seen : Seen) (gone : List Owned) (told pages room room' : ℕ) → IsSoundClient seen pages room rising → gone ≡ seen.gone → told ≡ after_next seen.gone seen.told → room' ≡ room → IsSoundClient (record seen { gone = gone; told = told }) pages room' rising
 kept_told seen gone told pages room room' kept gone_is told_is same =
     let sound = kept.sound in
     rw (gone_is, told_is, same) (record {
@@ -291,6 +296,7 @@ kept_told seen gone told pages room room' kept gone_is told_is same =
       small = kept.small;
       roomy = kept.roomy;
       full = kept.full;
+      rises = kept.rises;
     })
   where
     next_within : (told n : ℕ) → told ≤ n → cond (ltb told n) (told + 1) told ≤ n

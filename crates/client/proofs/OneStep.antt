@@ -1,5 +1,5 @@
 -- What one step on one segment does to the client.
-use Rattle.std.proofs.Common.{◌≡◌, ◌≢◌, ℕ, zero, suc, ◌+◌, ◌-◌, ◌≤◌, ◌==◌, Bool, true, false, ◌||◌, List, [], ◌∷◌, ◌++◌, length, get_or, set, map, Option, Some, None, refl, sym, ap, subst, ◌∙◌, inl, inr, arith, length-append}
+use Rattle.std.proofs.Common.{◌≡◌, ◌≢◌, ℕ, zero, suc, ◌+◌, ◌-◌, ◌<◌, ◌≤◌, ◌==◌, Bool, true, false, ◌||◌, List, [], ◌∷◌, ◌++◌, length, get_or, set, map, Option, Some, None, refl, sym, ap, subst, ◌∙◌, inl, inr, arith, length-append}
 use Rattle.std.specs.List.{slice_get, count_by, list_any, remove, sum_by}
 use Rattle.std.specs.Option.{IfSome, IfNone, option_map}
 use Rattle.span_heap.specs.Pick.{pick}
@@ -8,7 +8,8 @@ use Rattle.client.specs.Finding.{CarvesPick}
 use Rattle.std.proofs.lemmas.Bool.{cases_Bool, eq-eqb, both_ways}
 use Rattle.std.proofs.lemmas.List.Edits.{length-remove}
 use Rattle.std.proofs.lemmas.List.Sums.{sum_by_push, sum_by-remove}
-use Rattle.std.proofs.lemmas.List.{length-set}
+use Rattle.std.proofs.lemmas.List.{length-set, get_or-set_same, get_or-set_other}
+use Rattle.std.proofs.lemmas.List.Quantifiers.{all_pairs_remove}
 use Rattle.span_heap.specs.Segment.{Segment}
 use Rattle.std.proofs.lemmas.List.Folds.{Any-from_list_any, list_any_at}
 use Rattle.std.proofs.lemmas.Option.{slice_get_within, slice_get_read, none-some, same_Some, slice_get-map, get_or_from_slice_get, slice_get-get_or}
@@ -23,7 +24,7 @@ use Rattle.span_heap.specs.Changes.{Drops, Uses, Frees}
 use Rattle.client.specs.Gone.{has_side, is_side}
 use Rattle.client.specs.Lease.{Lease, IsLease, LocksPages, UnlocksPages, LooksAt, locked_pages}
 use Rattle.client.specs.Seen.{Seen, known, numbers_of, segment_of, IsUnknown}
-use Rattle.client.specs.Places.{IsThere}
+use Rattle.client.specs.Places.{IsThere, Rises}
 use Rattle.client.specs.Pieces.{Part, IsUsed, IsLive, AllStay, AreApart, FitsIn, LocksSo, UnlocksSo, IsFresh}
 use Rattle.client.specs.Calls.{Turns, Loses, LocksRun, UnlocksRun, LooksInto, TakesOut}
 use Rattle.client.specs.Sound.{IsSoundSeen, IsSoundClient, LockedAreUsed}
@@ -67,7 +68,7 @@ has_each seen p lease sound at =
     has_mapped (l ∷ leases) (suc p) lease at = or_right (has_id lease.side.id (segment_of l)) (list_any (has_id lease.side.id) (map segment_of leases)) (has_mapped leases p lease at)
 
 -- the pages of a segment are among those of all
-pub pages_fit : (seen : Seen) (pages room p : ℕ) (lease : Lease) → IsSoundClient seen pages room → slice_get seen.leases p ≡ Some lease → lease.side.pages ≤ pages
+pub pages_fit : {rising : Bool} (seen : Seen) (pages room p : ℕ) (lease : Lease) → IsSoundClient seen pages room rising → slice_get seen.leases p ≡ Some lease → lease.side.pages ≤ pages
 pages_fit seen pages room p lease kept at =
     let f : Lease → ℕ = λ l. l.side.pages in
     let here : f (get_or seen.leases p lease) ≡ lease.side.pages = ap f (get_or_from_slice_get seen.leases p lease lease at) in
@@ -91,8 +92,27 @@ not_gone seen p lease sound at =
         let sum = sum_by-map (is_id id) (λ (s : Owned). s.id) gone in
         omega (arith, sum, counted_at (is_side id) gone k side (slice_get_read gone (length gone) k side refl within (sym is)) passes)
 
+-- the numbers rise as before where a segment turned, and where one left
+rises_set : (leases : List Lease) (p : ℕ) (old new : Lease) → slice_get leases p ≡ Some old → new.side.id ≡ old.side.id → Rises leases → Rises (set leases p new)
+rises_set leases p old new at same rises = λ i j d less within.
+    let long = length-set leases p new in
+    let first = set_number leases p i old new d at same (omega (arith, less, within, long)) in
+    let second = set_number leases p j old new d at same (omega (arith, within, long)) in
+    omega (arith, first, second, rises i j d less (omega (arith, within, long)))
+  where
+    set_number : (leases : List Lease) (p k : ℕ) (old new d : Lease) → slice_get leases p ≡ Some old → new.side.id ≡ old.side.id → k < length leases → (get_or (set leases p new) k d).side.id ≡ (get_or leases k d).side.id
+    set_number leases p k old new d at same within = elim (cases_same k p) [
+      | inl here ↦
+          ap (λ (l : Lease). l.side.id) (ap (λ n. get_or (set leases p new) n d) here ∙ get_or-set_same leases p new d (slice_get_within leases p old at))
+          ∙ (same ∙ ap (λ (l : Lease). l.side.id) (sym (ap (λ n. get_or leases n d) here ∙ get_or_from_slice_get leases p old d at)))
+      | inr other ↦ ap (λ (l : Lease). l.side.id) (get_or-set_other leases p k new d other)
+    ]
+
+rises_left : (leases : List Lease) (p : ℕ) → p < length leases → Rises leases → Rises (remove leases p)
+rises_left leases p within rises = all_pairs_remove (λ (one later : Lease). one.side.id < later.side.id) leases p within rises
+
 -- A segment turned: the client is kept.
-pub kept_turned : (seen : Seen) (pages room p : ℕ) (old new : Lease) → IsSoundClient seen pages room → slice_get seen.leases p ≡ Some old → Follows seen old new → new.side.phase ≢ phase.Gone → IsSoundClient (record seen { leases = set seen.leases p new }) pages room
+pub kept_turned : {rising : Bool} (seen : Seen) (pages room p : ℕ) (old new : Lease) → IsSoundClient seen pages room rising → slice_get seen.leases p ≡ Some old → Follows seen old new → new.side.phase ≢ phase.Gone → IsSoundClient (record seen { leases = set seen.leases p new }) pages room rising
 kept_turned seen pages room p old new kept at follows live =
     record {
       sound = sound_turned seen p old new kept.sound at follows live;
@@ -100,10 +120,11 @@ kept_turned seen pages room p old new kept at follows live =
       small = kept.small;
       roomy = omega (arith, kept.roomy, length-set seen.leases p new);
       full = kept.full;
+      rises = λ on. rises_set seen.leases p old new at follows.same (kept.rises on);
     }
 
 -- the segments' pages without one
-pages_left : (seen : Seen) (pages room p : ℕ) (lease : Lease) (segments : List Segment) → IsSoundClient seen pages room → slice_get seen.leases p ≡ Some lease → segments ≡ map segment_of (remove seen.leases p) → pages - lease.side.pages ≡ size_of segments
+pages_left : {rising : Bool} (seen : Seen) (pages room p : ℕ) (lease : Lease) (segments : List Segment) → IsSoundClient seen pages room rising → slice_get seen.leases p ≡ Some lease → segments ≡ map segment_of (remove seen.leases p) → pages - lease.side.pages ≡ size_of segments
 pages_left seen pages room p lease segments kept at is =
     let f : Lease → ℕ = λ l. l.side.pages in
     let here : f (get_or seen.leases p lease) ≡ lease.side.pages = ap f (get_or_from_slice_get seen.leases p lease lease at) in
@@ -112,9 +133,9 @@ pages_left seen pages room p lease segments kept at is =
     omega (arith, here, all, left, kept.counted, sum_by-remove f seen.leases p lease (slice_get_within seen.leases p lease at))
 
 -- A segment was found gone: the client is kept.
-pub kept_lost : (seen : Seen) (leases : List Lease) (heap : Contents) (gone : List Owned) (told pages room room' p : ℕ) (lease : Lease) (side : Owned) → IsSoundClient seen pages room → slice_get seen.leases p ≡ Some lease → side.id ≡ lease.side.id → side.pages ≡ lease.side.pages
+pub kept_lost : {rising : Bool} (seen : Seen) (leases : List Lease) (heap : Contents) (gone : List Owned) (told pages room room' p : ℕ) (lease : Lease) (side : Owned) → IsSoundClient seen pages room rising → slice_get seen.leases p ≡ Some lease → side.id ≡ lease.side.id → side.pages ≡ lease.side.pages
     → leases ≡ remove seen.leases p → Drops seen.heap heap side.id → IsPartition heap → gone ≡ seen.gone ++ side ∷ [] → told ≡ seen.told → room' + 1 ≡ room
-    → IsSoundClient (record seen { leases = leases; heap = heap; gone = gone; told = told }) (pages - side.pages) room'
+    → IsSoundClient (record seen { leases = leases; heap = heap; gone = gone; told = told }) (pages - side.pages) room' rising
 kept_lost seen leases heap gone told pages room room' p lease side kept at number size leases_is drops partition gone_is told_is less =
     let within_told : told ≤ length gone = rw (gone_is, told_is) (omega (arith, kept.sound.told, length-append seen.gone (side ∷ []))) in
     let inside = slice_get_within seen.leases p lease at in
@@ -142,6 +163,7 @@ kept_lost seen leases heap gone told pages room room' p lease side kept at numbe
       small = omega (arith, kept.small);
       roomy = rw leases_is (omega (arith, kept.roomy, less, length-remove seen.leases p inside));
       full = omega (arith, kept.full, less);
+      rises = λ on. rw leases_is (rises_left seen.leases p inside (kept.rises on));
     }
 
 -- A lock of some free pages that was held.
@@ -289,7 +311,7 @@ look_gone old new p lease turned sound at looks loses =
     none_locked lease is free = elim (cases_same (locked_pages lease) 0) [ inl none ↦ none | inr some ↦ absurd (free (is.held (omega (arith, some)))) ]
 
 -- A search: the client is kept.
-pub kept_used : (seen : Seen) (heap : Contents) (span : Run) (pages room : ℕ) → IsSoundClient seen pages room → Uses seen.heap heap span → IsPartition heap → IsSoundClient (record seen { heap = heap }) pages room
+pub kept_used : {rising : Bool} (seen : Seen) (heap : Contents) (span : Run) (pages room : ℕ) → IsSoundClient seen pages room rising → Uses seen.heap heap span → IsPartition heap → IsSoundClient (record seen { heap = heap }) pages room rising
 kept_used seen heap span pages room kept uses partition =
     record {
       sound = sound_used seen heap span kept.sound uses partition;
@@ -297,6 +319,7 @@ kept_used seen heap span pages room kept uses partition =
       small = kept.small;
       roomy = kept.roomy;
       full = kept.full;
+      rises = kept.rises;
     }
 
 -- a used span lies within its segment, which is the only one of its number
@@ -335,7 +358,7 @@ fresh_span seen heap span sound uses partition =
     two b e f = cc
 
 -- A free: the client is kept.
-pub kept_freed : (seen : Seen) (heap : Contents) (span : Run) (pages room : ℕ) → IsSoundClient seen pages room → IsUsed seen span false → Frees seen.heap heap span → IsPartition heap → IsSoundClient (record seen { heap = heap }) pages room
+pub kept_freed : {rising : Bool} (seen : Seen) (heap : Contents) (span : Run) (pages room : ℕ) → IsSoundClient seen pages room rising → IsUsed seen span false → Frees seen.heap heap span → IsPartition heap → IsSoundClient (record seen { heap = heap }) pages room rising
 kept_freed seen heap span pages room kept used frees partition =
     record {
       sound = sound_freed seen heap span kept.sound frees partition (λ k d within number.
@@ -344,11 +367,12 @@ kept_freed seen heap span pages room kept used frees partition =
       small = kept.small;
       roomy = kept.roomy;
       full = kept.full;
+      rises = kept.rises;
     }
 
 -- A segment was taken out: the client is kept.
-pub kept_taken : (seen : Seen) (leases : List Lease) (heap : Contents) (pages room p : ℕ) (lease : Lease) (side : Owned) → IsSoundClient seen pages room → slice_get seen.leases p ≡ Some lease → side ≡ lease.side
-    → leases ≡ remove seen.leases p → Drops seen.heap heap side.id → IsPartition heap → IsSoundClient (record seen { leases = leases; heap = heap; taken = seen.taken + 1 }) (pages - side.pages) room
+pub kept_taken : {rising : Bool} (seen : Seen) (leases : List Lease) (heap : Contents) (pages room p : ℕ) (lease : Lease) (side : Owned) → IsSoundClient seen pages room rising → slice_get seen.leases p ≡ Some lease → side ≡ lease.side
+    → leases ≡ remove seen.leases p → Drops seen.heap heap side.id → IsPartition heap → IsSoundClient (record seen { leases = leases; heap = heap; taken = seen.taken + 1 }) (pages - side.pages) room rising
 kept_taken seen leases heap pages room p lease side kept at side_is leases_is drops partition =
     let inside = slice_get_within seen.leases p lease at in
     let sound = sound_left seen heap seen.gone seen.told (seen.taken + 1) p lease kept.sound at (subst (λ (s : Owned). Drops seen.heap heap s.id) side_is drops) partition kept.sound.told (λ id. omega arith) in
@@ -358,6 +382,7 @@ kept_taken seen leases heap pages room p lease side kept at side_is leases_is dr
       small = omega (arith, kept.small);
       roomy = rw leases_is (omega (arith, kept.roomy, length-remove seen.leases p inside));
       full = kept.full;
+      rises = λ on. rw leases_is (rises_left seen.leases p inside (kept.rises on));
     }
 
 -- a span that a search may have found
@@ -365,7 +390,7 @@ pub fresh_found : (seen : Seen) (heap : Contents) (found : Option Run) → IsSou
 fresh_found seen heap None sound uses partition = tt
 fresh_found seen heap (Some span) sound uses partition = fresh_span seen heap span sound uses partition
 
-pub kept_found : (seen : Seen) (heap : Contents) (found : Option Run) (pages room : ℕ) → IsSoundClient seen pages room → IfSome found (Uses seen.heap heap) → IfNone found (heap ≡ seen.heap) → IsPartition heap → IsSoundClient (record seen { heap = heap }) pages room
+pub kept_found : {rising : Bool} (seen : Seen) (heap : Contents) (found : Option Run) (pages room : ℕ) → IsSoundClient seen pages room rising → IfSome found (Uses seen.heap heap) → IfNone found (heap ≡ seen.heap) → IsPartition heap → IsSoundClient (record seen { heap = heap }) pages room rising
 kept_found seen heap None pages room kept uses same partition = rw same kept
 kept_found seen heap (Some span) pages room kept uses same partition = kept_used seen heap span pages room kept uses partition
 

@@ -131,7 +131,7 @@ written_set seen run p lease w sound at number =
     one_written seen.leases p run.segment run.first w lease at number (alone_there seen p run.segment lease sound at number)
 
 -- A segment was written: the client is kept.
-pub kept_written : (seen : Seen) (pages room p first : ℕ) (lease : Lease) (w : List ℕ) → IsSoundClient seen pages room → slice_get seen.leases p ≡ Some lease → IsSoundClient (record seen { leases = set seen.leases p (with_bytes first w lease) }) pages room
+pub kept_written : {rising : Bool} (seen : Seen) (pages room p first : ℕ) (lease : Lease) (w : List ℕ) → IsSoundClient seen pages room rising → slice_get seen.leases p ≡ Some lease → IsSoundClient (record seen { leases = set seen.leases p (with_bytes first w lease) }) pages room rising
 kept_written seen pages room p first lease w kept at =
     let is = All-at IsLease seen.leases p lease kept.sound.leases at in
     kept_turned seen pages room p lease (with_bytes first w lease) kept at

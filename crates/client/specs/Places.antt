@@ -1,6 +1,6 @@
 -- Where a segment stands among those of a client.
-use Rattle.std.specs.Prelude.{◌≡◌, ◌<◌, ℕ, Bool, false, not, List, length, map, Option, Some, MatchOption, slice_get, filter}
-use Rattle.std.specs.List.{list_any}
+use Rattle.std.specs.Prelude.{◌≡◌, ◌<◌, ℕ, Bool, false, not, List, length, map, Option, Some, MatchOption, slice_get, slice_index_or, filter}
+use Rattle.std.specs.List.{list_any, AllPairs}
 use Rattle.std.specs.List.Sorted.{IsPermutation}
 use Rattle.segment.specs.Owned.{Owned}
 use Rattle.span_heap.specs.declared.run.Run.{Run}
@@ -23,6 +23,14 @@ IsThere place id leases = (lease : Lease) × (slice_get leases place ≡ Some le
 -- the side is that of the segment at the place
 abbrev pub IsSideAt : ℕ → List Lease → Owned → Type 0
 IsSideAt place leases side = (lease : Lease) → slice_get leases place ≡ Some lease → side ≡ lease.side
+
+-- the numbers of the segments rise
+abbrev pub Rises : List Lease → Type 0
+Rises leases = AllPairs (λ (one later : Lease). one.side.id < later.side.id) leases
+
+-- each of their numbers is below this one
+abbrev pub AreBelow : ℕ → List Lease → Type 0
+AreBelow id leases = (k : ℕ) (other : Lease) → k < length leases → (slice_index_or leases k other).side.id < id
 
 -- the place of the segment of this number, or none where no segment has it
 abbrev pub IsPlaceOf : List Lease → ℕ → Option ℕ → Type 0

@@ -20,7 +20,7 @@ use crate::coming::{front_locks, make_room};
 use crate::gone::GoneSides;
 use crate::lease::LeasedSegment;
 use crate::piece::Piece;
-use crate::table::place_of;
+use crate::table::{place_of, rise_to};
 use segment::{Lock, OwnerSide};
 use span_heap::{Heap, Runs};
 use std::alloc::Global;
@@ -35,15 +35,17 @@ use units::NoMemory;
 /// and its runs leave at once, its side is kept among the gone ones until it is told (`untold`), and
 /// its pieces stay owned and are dead. No two pieces share a page.
 ///
-/// Only `new`, `adopt` and `runs` take memory. A segment is found at once where the numbers of the
-/// segments rise by one, by halves where they rise, and else by a walk. So only `sweep`, `take_free`
-/// and `runs` go along all segments, and a call on a dead piece, whose segment is in none of them.
+/// Only `new`, `adopt` and `runs` take memory. No call but `sweep`, `take_free` and `runs` goes along
+/// all segments: one is found, or found missing as that of a dead piece is, at once where the numbers
+/// rise by one and by halves where they rise, as those of one granter do; else by a walk.
 #[derive(Drop)]
 pub struct Client {
     pub(crate) number: u32,
     pub(crate) standard: u32,
     /// In the order in which they came.
     pub(crate) leases: Vec<LeasedSegment>,
+    /// Whether the numbers of the segments rise, so that one that is not found by halves is not there.
+    rising: bool,
     pub(crate) heap: Heap,
     /// How many pages the segments have.
     pub(crate) pages: u32,
@@ -62,7 +64,7 @@ impl Model for Client {
 
     ghost invariant = { λ c.
         IsSoundClient (seen_of c.number c.standard c.leases.items c.heap c.gone c.taken)
-        c.pages c.gone.room };
+        c.pages c.gone.room c.rising };
 }
 
 impl Client {
@@ -79,6 +81,7 @@ impl Client {
             number,
             standard,
             leases: Vec::new(alloc),
+            rising: true,
             heap: Heap::new(alloc)?,
             pages: 0,
             gone: GoneSides::new(alloc),
@@ -137,7 +140,7 @@ impl Client {
         if piece.client() != self.number {
             return false;
         }
-        let Some(place) = place_of(self.leases.as_slice(), piece.segment()) else {
+        let Some(place) = place_of(self.leases.as_slice(), self.rising, piece.segment()) else {
             return self.is_dead(piece);
         };
         if !self.heap.has(piece.span()) {
@@ -161,7 +164,7 @@ impl Client {
     pub fn knows(&self, id: u64) -> bool
         ensures { result ≡ is_known self.now id }
     {
-        match place_of(self.leases.as_slice(), id) {
+        match place_of(self.leases.as_slice(), self.rising, id) {
             Some(_) => true,
             None => self.gone.has(id),
         }
@@ -178,7 +181,7 @@ impl Client {
         ensures stay { AllStay self.old self.new }
     {
         while let Some(span) = self.carve(pages) {
-            let Some(place) = place_of(self.leases.as_slice(), span.segment()) else {
+            let Some(place) = place_of(self.leases.as_slice(), self.rising, span.segment()) else {
                 unreachable!()
             };
             match self.lock_at(place, &span) {
@@ -216,6 +219,7 @@ impl Client {
         let Ok(locks) = front_locks(alloc, whole, pages) else {
             return Err(Unadopted { side });
         };
+        let rising = rise_to(self.leases.as_slice(), self.rising, &side);
         let Ok(()) = make_room(&mut self.leases, &mut self.gone, self.taken) else {
             return Err(Unadopted { side });
         };
@@ -223,6 +227,7 @@ impl Client {
             return Err(Unadopted { side });
         };
         self.pages += whole;
+        self.rising = rising;
         self.leases.push_reserved(LeasedSegment::new(side, locks));
         Ok(Piece::locked_piece(self.number, span))
     }
@@ -238,7 +243,7 @@ impl Client {
         ensures piece { piece.new ≡ part_after_lock result piece.old }
         ensures leaves { LocksPiece result piece.old self.old self.new }
     {
-        let Some(place) = place_of(self.leases.as_slice(), piece.segment()) else {
+        let Some(place) = place_of(self.leases.as_slice(), self.rising, piece.segment()) else {
             return Lock::Gone;
         };
         match self.lock_at(place, piece.span()) {
@@ -260,7 +265,7 @@ impl Client {
         ensures piece { piece.new ≡ record piece.old { locked = false } }
         ensures leaves { UnlocksPiece piece.old self.old self.new }
     {
-        let Some(place) = place_of(self.leases.as_slice(), piece.segment()) else {
+        let Some(place) = place_of(self.leases.as_slice(), self.rising, piece.segment()) else {
             unreachable!()
         };
         let told = self.unlock_at(place, piece.span(), now);
@@ -275,7 +280,7 @@ impl Client {
         ensures value { result.now ≡ bytes_of self.now piece.now.run }
         ensures sized { length result.now ≡ PAGE * piece.now.run.pages }
     {
-        let Some(place) = place_of(self.leases.as_slice(), piece.segment()) else {
+        let Some(place) = place_of(self.leases.as_slice(), self.rising, piece.segment()) else {
             unreachable!()
         };
         self.leases[place].bytes(piece.first(), piece.pages())
@@ -291,7 +296,7 @@ impl Client {
         ensures sized { length result.now ≡ PAGE * piece.now.run.pages }
         ensures only { WritesOnly piece.now self.old }
     {
-        let Some(place) = place_of(self.leases.as_slice(), piece.segment()) else {
+        let Some(place) = place_of(self.leases.as_slice(), self.rising, piece.segment()) else {
             unreachable!()
         };
         self.leases[place].bytes_mut(piece.first(), piece.pages())
@@ -306,7 +311,7 @@ impl Client {
         ensures frees { AfterFree result piece now self.old self.new }
         ensures stay { OthersStay piece.run self.old self.new }
     {
-        let Some(place) = place_of(self.leases.as_slice(), piece.segment()) else {
+        let Some(place) = place_of(self.leases.as_slice(), self.rising, piece.segment()) else {
             return false;
         };
         self.set_free(place, &piece, now);

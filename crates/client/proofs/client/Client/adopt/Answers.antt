@@ -24,7 +24,8 @@ invariant_of-self-2 c =
     let less = rw (← c.pages-whole.ensures.value) at c.requires.pages.1 in
     rw (c.make_room.ensures.sides, c.make_room.ensures.told)
     (kept_adopted _ c.grow_front.new.self side locks c.push_reserved.new.self.items span whole c.args.pages c.self.inside.pages c.self.inside.gone.room c.make_room.new.gone.room c.self.invariant c.requires.held (sym c.pages-whole.ensures.value) unknown c.requires.pages.0 less c.in-Ok.ensures grows c.in-Ok-grow_front.ensures.partition leases
-    (omega (arith, c.in-Ok-make_room.ensures.room, ap length c.make_room.ensures.leases)) (c.make_room.ensures.full c.self.invariant.full) small)
+    (omega (arith, c.in-Ok-make_room.ensures.room, ap length c.make_room.ensures.leases)) (c.make_room.ensures.full c.self.invariant.full) small
+    (λ on. (c.rise_to-rising.ensures.rising on, rw c.as_slice.ensures.value at (c.rise_to-rising.ensures.below on))))
 
 pub returns-clause-adopts : goal.returns-clause-adopts
 returns-clause-adopts c =
