@@ -22,10 +22,12 @@ pub trait Granter {
     /// The greatest number that it granted, or 0.
     ghost greatest: { Self → ℕ };
 
-    /// It granted this client, at this moment, this segment. Only `grant` tells so, whatever an implementation means by it.
+    /// It granted this client, at this moment, this segment. Only `grant` tells so, whatever an
+    /// implementation means by it.
     ghost granted_to: { ℕ → ℕ → Owned → Self → Self → Type 0 };
 
-    /// It took this number back from this client, with the block where one came. Only `give_back` tells so.
+    /// It took this number back from this client, with the block where one came. Only `give_back`
+    /// tells so.
     ghost took_back: { ℕ → ℕ → Option (List ℕ) → Self → Self → Type 0 };
 
     /// Plain data of the implementation's own choice, which no call changes.
