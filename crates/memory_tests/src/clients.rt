@@ -1,6 +1,6 @@
 ghost use Rattle.std.specs.Prelude.{◌≡◌, ◌≤◌, length};
 
-use crate::granters::{Grants, Plan, Wardens};
+use crate::granters::{CLIENT, Grants, Plan, Wardens};
 use client::{Client, ClientFault, Granted, Piece, Unlocked};
 use segment::Lock;
 use std::alloc::Global;
@@ -37,7 +37,7 @@ fn client_over(
 ) -> Result<Granted<Grants<'_>>, NoMemory>
     requires { (1 ≤ standard) × (standard ≤ 64) }
 {
-    let client = Client::new(alloc, 1, standard)?;
+    let client = Client::new(alloc, CLIENT, standard)?;
     Ok(Granted::new(client, Grants::new(alloc, wardens, Plan::Fails(fails))?))
 }
 
@@ -200,11 +200,12 @@ impl<'w> Bench<'w> {
     }
 
     /// Ends it: how many segments were granted and how many sides found gone, where each number was
-    /// returned once.
+    /// granted to this client and returned once by it.
     fn ends<R: Threads + Wait + Sync>(self, rt: &R) -> Told {
         let Bench { granted, .. } = self;
         let (end, granter) = granted.close_with(rt);
-        if end.grants == granter.grants && are_once(granter.returned.as_slice(), end.grants) {
+        let right = are_once(granter.returned.as_slice(), end.grants) && granter.strangers == 0;
+        if right && end.grants == granter.grants {
             (digit(end.grants), digit(end.gone.len()))
         } else {
             REFUSED
@@ -212,16 +213,16 @@ impl<'w> Bench<'w> {
     }
 }
 
-/// Whether each number from 1 to this one, which is below 10, stands once in a list, and no other.
-fn are_once(numbers: &[u64], most: u64) -> bool {
+/// Whether the client returned each number from 1 to this one, which is below 10, once, and no other.
+fn are_once(returned: &[(u32, u64)], most: u64) -> bool {
     let mut seen = [false; 10];
-    for number in numbers {
-        if *number == 0 || *number > most || *number > 9 || seen[*number as usize] {
+    for &(client, id) in returned {
+        if client != CLIENT || id == 0 || id > most || id > 9 || seen[id as usize] {
             return false;
         }
-        seen[*number as usize] = true;
+        seen[id as usize] = true;
     }
-    numbers.len() as u64 == most
+    returned.len() as u64 == most
 }
 
 /// Plays a row. Its first digit is the standard size, where 0 stands for 64, and its second one the

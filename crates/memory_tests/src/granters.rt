@@ -7,6 +7,9 @@ use std::sync::{Mutex, Wait};
 use std::thread::Threads;
 use units::{NoMemory, is_moment};
 
+/// The number of the client in tests of one client.
+pub(crate) const CLIENT: u32 = 2;
+
 /// What a granter of tests does beside granting.
 #[derive(Clone, Copy)]
 pub(crate) enum Plan {
@@ -61,13 +64,15 @@ fn try_purge(warden: &mut WardenSide, now: u64) -> bool {
     }
 }
 
-/// What grants segments in tests: it numbers them from 1, and keeps the number of each return, up to
-/// 64 of them.
+/// What grants segments in tests: it numbers them from 1, and keeps the client and the number of each
+/// return, up to 64 of them.
 #[derive(Drop)]
 pub(crate) struct Grants<'w> {
     wardens: &'w Wardens,
     pool: Pool,
-    pub(crate) returned: Vec<u64>,
+    pub(crate) returned: Vec<(u32, u64)>,
+    /// How many grants another client than `CLIENT` asked for.
+    pub(crate) strangers: u64,
     plan: Plan,
     asked: u64,
     pub(crate) grants: u64,
@@ -87,6 +92,7 @@ impl<'w> Grants<'w> {
             wardens,
             pool: Pool::new(alloc, 0)?,
             returned,
+            strangers: 0,
             plan,
             asked: 0,
             grants: 0,
@@ -115,10 +121,13 @@ impl<'w> Granter for Grants<'w> {
         &mut self,
         rt: &H,
         alloc: Global,
-        _client: u32,
+        client: u32,
         pages: u32,
         now: u64,
     ) -> Result<OwnerSide, NoMemory> {
+        if client != CLIENT {
+            self.strangers = self.strangers.saturating_add(1);
+        }
         self.asked = self.asked.saturating_add(1);
         match self.plan {
             Plan::Fails(grant) if grant == self.asked => return Err(NoMemory),
@@ -139,7 +148,7 @@ impl<'w> Granter for Grants<'w> {
     fn give_back<H: Threads + Wait + Sync>(
         &mut self,
         _rt: &H,
-        _client: u32,
+        client: u32,
         id: u64,
         block: Option<Block>,
     ) {
@@ -147,7 +156,7 @@ impl<'w> Granter for Grants<'w> {
             self.pool.put(block);
         }
         if self.returned.len() < self.returned.capacity() {
-            self.returned.push_reserved(id);
+            self.returned.push_reserved((client, id));
         }
         self.returns = self.returns.saturating_add(1);
     }

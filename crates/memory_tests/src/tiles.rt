@@ -4,7 +4,7 @@ ghost use Rattle.tile_source.specs.Tile.{IsTile};
 ghost use Rattle.tile_source.specs.declared.tile.Tile.{Tile as Square};
 ghost use Rattle.tile_cache.specs.Cached.{IsUsedWith};
 
-use crate::granters::{Grants, Plan, Wardens};
+use crate::granters::{CLIENT, Grants, Plan, Wardens};
 use client::{Client, Granted};
 use std::alloc::Global;
 use std::sync::Wait;
@@ -101,7 +101,7 @@ fn answers<H: Threads + Wait + Sync>(
 ) -> Result<bool, NoMemory>
     requires { (1 ≤ entries) × (entries ≤ 4096) }
 {
-    let client = Client::new(alloc, 1, 1)?;
+    let client = Client::new(alloc, CLIENT, 1)?;
     let wardens = Wardens::new(alloc);
     let granted = Granted::new(client, Grants::new(alloc, &wardens, plan)?);
     let Ok(mut cache) = Cache::new(alloc, granted, entries) else {
